@@ -32,14 +32,14 @@ pub record IsChain (Up Down : ℕ → ℕ → Type 0) (start window : ℕ) (fram
   pub within : All (λ k. (start ≤ k) × (k ≤ start + window)) frames
   pub alternates : AlternatesEitherWay Up Down frames
 
--- a change of the colours of two frames
-abbrev pub Between : (Rgb → Rgb → Type 0) → (ℕ → Rgb) → ℕ → ℕ → Type 0
-Between Changes colours j k = Changes (colours j) (colours k)
+-- a change of what is seen in two frames
+abbrev pub Between : {C : Type 0} → (C → C → Type 0) → (ℕ → C) → ℕ → ℕ → Type 0
+Between Changes seen j k = Changes (seen j) (seen k)
 
 -- some nine frames of the window are a chain
-abbrev pub HasChain : (Rgb → Rgb → Type 0) → (Rgb → Rgb → Type 0) → (ℕ → Rgb) → ℕ → ℕ → Type 0
-HasChain Up Down colours start window =
-    (frames : List ℕ) × IsChain (Between Up colours) (Between Down colours) start window frames
+abbrev pub HasChain : {C : Type 0} → (C → C → Type 0) → (C → C → Type 0) → (ℕ → C) → ℕ → ℕ → Type 0
+HasChain Up Down seen start window =
+    (frames : List ℕ) × IsChain (Between Up seen) (Between Down seen) start window frames
 
 -- the colours of a pixel, frame by frame
 abbrev pub colours_at : Painting → ℕ → ℕ → ℕ → Rgb
@@ -70,13 +70,17 @@ pub record IsInRectangle (x y : ℤ) (column row : ℕ) : Type 0 where
   pub below : y ≤ℤ pos row
   pub above : pos row ≤ℤ (y +ℤ pos 255)
 
--- The window that begins at a frame is bad at a position: more than a quarter of the rectangle there is flagged. So some
--- pixels can be marked, each of them flagged and in the rectangle, and there are more than 21,824 of them in the viewport.
-pub record IsBad (painting : Painting) (setup : Setup) (start : ℕ) (x y : ℤ) : Type 0 where
+-- More than a quarter of the rectangle at a position is flagged: some pixels can be marked, each of them flagged and in the
+-- rectangle, and there are more than 21,824 of them in the viewport.
+pub record HasManyFlagged (Flagged : ℕ → ℕ → Type 0) (setup : Setup) (x y : ℤ) : Type 0 where
   pub marks : ℕ → ℕ → Bool
-  pub flagged : (column row : ℕ) → IsTrue (marks column row) → IsFlagged painting setup start column row
+  pub flagged : (column row : ℕ) → IsTrue (marks column row) → Flagged column row
   pub inside : (column row : ℕ) → IsTrue (marks column row) → IsInRectangle x y column row
   pub many : 21824 < area setup.width setup.height marks
+
+-- the window that begins at a frame is bad at a position
+abbrev pub IsBad : Painting → Setup → ℕ → ℤ → ℤ → Type 0
+IsBad painting setup start x y = HasManyFlagged (IsFlagged painting setup start) setup x y
 
 -- no window, from the first frame on, is bad at any position
 abbrev pub IsSafe : Painting → Setup → Type 0

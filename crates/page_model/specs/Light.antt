@@ -1,13 +1,9 @@
 -- Linear light and relative luminance of a colour, and rises and falls of luminance. The curve is that of WCAG 2.2's
 -- relative luminance, in whole parts of 2^32 and rounded down (the rounding is the project's own); a rise and a fall are the
 -- opposing changes of its general flash: a tenth of the luminance of white, where the darker is below 0.8 of it.
-use Rattle.std.specs.Prelude.{ℕ, zero, suc, Bool, ◌+◌, ◌*◌, ◌/◌, ◌^◌, ◌<◌, ◌≤◌, nat_le, if◌then◌else◌}
+use Rattle.std.specs.Prelude.{ℕ, Bool, ◌+◌, ◌*◌, ◌/◌, ◌^◌, ◌<◌, ◌≤◌, nat_le, if◌then◌else◌}
 use Rattle.page_model.specs.declared.colour.Rgb.{Rgb}
-
--- the greatest number up to a limit that passes a test, or 0
-unfoldable pub greatest_up_to : ℕ → (ℕ → Bool) → ℕ
-greatest_up_to zero test = 0
-greatest_up_to (suc n) test = if test (suc n) then suc n else greatest_up_to n test
+use Rattle.page_model.specs.Least.{greatest_up_to}
 
 -- n / 2^32 is at most ((c / 255 + 0.055) / 1.055) ^ 2.4, in whole numbers
 abbrev pub is_below_curve : ℕ → ℕ → Bool
