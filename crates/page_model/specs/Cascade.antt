@@ -3,7 +3,7 @@
 -- declarations that match an element and set a longhand the winning one is the greatest by importance, then inline, then
 -- specificity (ids, classes, types), then place in the file. Rules, inline declarations and keyframe sets are handed in, the sets
 -- with a finite map from a name to the number of its set.
-use Rattle.std.specs.Prelude.{ℕ, ℤ, pos, Bool, true, false, not, Option, Some, None, ◌≡◌, ◌⊎◌, ◌+◌, ◌-◌, ◌%◌, ◌<◌, ◌≤◌, ◌==◌, ◌&&◌, ◌||◌, List, [], ◌∷◌, ◌++◌, length, take, filter, filter_map, flat_map, map, zip, count_by, slice_get, option_map, option_and_then, unwrap_or, is_some, nat_lt, if◌then◌else◌, IsTrue, IsSome, Contains, All, codes}
+use Rattle.std.specs.Prelude.{ℕ, ℤ, pos, Bool, true, false, not, Option, Some, None, ◌≡◌, ◌%◌, ◌<◌, ◌==◌, ◌&&◌, ◌||◌, List, [], ◌∷◌, ◌++◌, length, take, filter, filter_map, flat_map, map, count_by, slice_get, option_map, option_and_then, unwrap_or, is_some, nat_lt, if◌then◌else◌, Contains, All, codes}
 use Rattle.std.specs.List.{list_all, list_any, enumerate_from}
 use Rattle.std.specs.Str.{bytes_eq, str_eq_ignore_ascii_case}
 use Rattle.page_model.specs.declared.animation.Anim.{Anim}
@@ -21,7 +21,6 @@ use Rattle.page_model.specs.declared.element.Tag.TheVariants.{Body, Div, Span}
 use Rattle.page_model.specs.declared.element.Element.{Element}
 use Rattle.page_model.specs.declared.keyframe.KeyframeSet.{KeyframeSet}
 use Rattle.page_model.specs.declared.keyframe.Keyframe.{Keyframe}
-use Rattle.page_model.specs.declared.property.Prop.{Prop}
 use Rattle.page_model.specs.declared.property.Prop.TheVariants as prop
 use Rattle.page_model.specs.declared.property.Setting.{Setting}
 use Rattle.page_model.specs.declared.rule.Compound.{Compound}
@@ -56,7 +55,7 @@ matches_ids ids own = list_all (λ id. is_some own && bytes_eq id (unwrap_or own
 abbrev pub matches : Compound → Element → Bool
 matches selector element =
     matches_tag selector.tag element.tag
-      && (matches_ids selector.ids element.id && list_all (is_among element.classes) selector.classes)
+    && (matches_ids selector.ids element.id && list_all (is_among element.classes) selector.classes)
 
 -- by what one declaration beats another: the first of these that differs
 pub record Weight : Type 0 where
@@ -91,26 +90,29 @@ bit b = if b then 1 else 0
 -- the declaration of a rule, by one of its selectors
 abbrev pub by_selector : Decl → Compound → Candidate
 by_selector decl selector = record {
-    weight = record {
-      important = bit decl.important;
-      inline = 0;
-      ids = length selector.ids;
-      classes = length selector.classes;
-      types = bit (is_some selector.tag);
-      place = decl.place };
-    longhand = decl.longhand }
+  weight = record {
+    important = bit decl.important;
+    inline = 0;
+    ids = length selector.ids;
+    classes = length selector.classes;
+    types = bit (is_some selector.tag);
+    place = decl.place;
+  };
+  longhand = decl.longhand;
+}
 
 -- the declaration of a style attribute
 abbrev pub by_attribute : Decl → Candidate
 by_attribute decl = record {
-    weight = record { important = bit decl.important; inline = 1; ids = 0; classes = 0; types = 0; place = decl.place };
-    longhand = decl.longhand }
+  weight = record { important = bit decl.important; inline = 1; ids = 0; classes = 0; types = 0; place = decl.place };
+  longhand = decl.longhand;
+}
 
 -- the declarations of a rule that match, once for each selector that does
 abbrev pub of_rule : Element → Rule → List Candidate
 of_rule element rule =
     flat_map (λ (selector : Compound). map (λ (decl : Decl). by_selector decl selector) rule.decls)
-      (filter (λ (selector : Compound). matches selector element) rule.selectors)
+    (filter (λ (selector : Compound). matches selector element) rule.selectors)
 
 -- all declarations that match an element: those of the rules, and its own
 abbrev pub candidates_of : List Rule → Element → List Decl → List Candidate
@@ -244,8 +246,8 @@ names_property set = list_any (λ (frame : Keyframe). nat_lt 0 (length frame.val
 abbrev pub kept_number : List KeyframeSet → ℕ → Option ℕ
 kept_number sets number =
     option_and_then
-      (λ (set : KeyframeSet). if names_property set then Some (count_by names_property (take number sets)) else None)
-      (slice_get sets number)
+    (λ (set : KeyframeSet). if names_property set then Some (count_by names_property (take number sets)) else None)
+    (slice_get sets number)
 
 -- the number in the scene of the set that a name means: none for `none`, a name without a set, and a set that names no property
 abbrev pub set_meant : (List ℕ → Option ℕ) → List KeyframeSet → Option (List ℕ) → Option ℕ
@@ -258,45 +260,48 @@ names_won winners = won winners 11 names_in (None ∷ [])
 -- the animation at a place of the list of names
 abbrev pub animation_at : Winners → ℕ → ℕ → Anim
 animation_at winners place set = record {
-    set = set;
-    duration = item_for (won winners 12 durations_in (0 ∷ [])) 0 place;
-    delay = item_for (won winners 14 delays_in (pos 0 ∷ [])) (pos 0) place;
-    count = item_for (won winners 15 counts_in (Times 1000 ∷ [])) (Times 1000) place;
-    direction = item_for (won winners 16 directions_in (Normal ∷ [])) Normal place;
-    fill = item_for (won winners 17 fills_in (Absent ∷ [])) Absent place;
-    easing = item_for (won winners 13 easings_in (ease ∷ [])) ease place;
-    paused = item_for (won winners 18 paused_in (false ∷ [])) false place }
+  set = set;
+  duration = item_for (won winners 12 durations_in (0 ∷ [])) 0 place;
+  delay = item_for (won winners 14 delays_in (pos 0 ∷ [])) (pos 0) place;
+  count = item_for (won winners 15 counts_in (Times 1000 ∷ [])) (Times 1000) place;
+  direction = item_for (won winners 16 directions_in (Normal ∷ [])) Normal place;
+  fill = item_for (won winners 17 fills_in (Absent ∷ [])) Absent place;
+  easing = item_for (won winners 13 easings_in (ease ∷ [])) ease place;
+  paused = item_for (won winners 18 paused_in (false ∷ [])) false place;
+}
 
 -- the animations of an element: one for each name that means a set, in the order of the names
 abbrev pub animations_won : (List ℕ → Option ℕ) → List KeyframeSet → Winners → List Anim
 animations_won set_named sets winners =
     filter_map (λ (item : ℕ × Option (List ℕ)). option_map (animation_at winners item.0) (set_meant set_named sets item.1))
-      (enumerate_from 0 (names_won winners))
+    (enumerate_from 0 (names_won winners))
 
 -- the properties that no animation may change
 abbrev pub held_by : Winners → Held
 held_by winners = record {
-    background = is_important winners 5;
-    opacity = is_important winners 6;
-    visibility = is_important winners 7;
-    left = is_important winners 1;
-    top = is_important winners 2;
-    width = is_important winners 3;
-    height = is_important winners 4 }
+  background = is_important winners 5;
+  opacity = is_important winners 6;
+  visibility = is_important winners 7;
+  left = is_important winners 1;
+  top = is_important winners 2;
+  width = is_important winners 3;
+  height = is_important winners 4;
+}
 
 -- the layer of an element, with the animations that are left
 abbrev pub layer_of : Winners → List Anim → Layer
 layer_of winners anims = record {
-    colour = option_and_then colour_in (value_of winners 5);
-    opacity = won winners 6 opacity_in 1000;
-    shown = won winners 7 visibility_in true;
-    left = won winners 1 length_in (pos 0);
-    top = won winners 2 length_in (pos 0);
-    width = won winners 3 length_in (pos 0);
-    height = won winners 4 length_in (pos 0);
-    z = won winners 8 z_in (pos 0);
-    important = held_by winners;
-    anims = anims }
+  colour = option_and_then colour_in (value_of winners 5);
+  opacity = won winners 6 opacity_in 1000;
+  shown = won winners 7 visibility_in true;
+  left = won winners 1 length_in (pos 0);
+  top = won winners 2 length_in (pos 0);
+  width = won winners 3 length_in (pos 0);
+  height = won winners 4 length_in (pos 0);
+  z = won winners 8 z_in (pos 0);
+  important = held_by winners;
+  anims = anims;
+}
 
 -- an element lacks a declaration that it needs: a box its place, size and colour, an animated body its colour
 abbrev pub is_placed : Winners → Bool
@@ -315,7 +320,7 @@ has_box_property winners = list_any (has winners) (0 ∷ (1 ∷ (2 ∷ (3 ∷ (4
 abbrev pub names_more : KeyframeSet → Bool
 names_more set =
     list_any (λ (frame : Keyframe). list_any (λ (setting : Setting). not (is_same setting.prop prop.Background)) frame.values)
-      set.frames
+    set.frames
 
 abbrev pub animates_more : List KeyframeSet → List Anim → Bool
 animates_more kept anims =

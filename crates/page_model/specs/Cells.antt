@@ -1,7 +1,7 @@
 -- The cells into which boxes cut the viewport: rectangles between neighbouring edges. A column is an edge where it is the first
 -- one, the viewport's end, or lies inside and is a possible left or right of some box in some frame that is looked at; rows are
 -- alike. So two pixels of a cell are covered alike by each box in each of those frames. This is the project's own.
-use Rattle.std.specs.Prelude.{ℕ, ℤ, pos, ◌≡◌, ◌⊎◌, ◌↔◌, ◌+◌, ◌-◌, ◌*◌, ◌<◌, ◌≤◌, ◌+ℤ◌, ◌≤ℤ◌, List, length, Contains, Some, slice_get}
+use Rattle.std.specs.Prelude.{ℕ, pos, ◌≡◌, ◌⊎◌, ◌↔◌, ◌-◌, ◌*◌, ◌<◌, ◌≤◌, ◌+ℤ◌, ◌≤ℤ◌, List, length, Contains, Some, slice_get}
 use Rattle.std.specs.List.Sorted.{IsStrictlyIncreasing}
 use Rattle.page_model.specs.declared.setup.Setup.{Setup}
 use Rattle.page_model.specs.declared.scene.Layer.{Layer}

@@ -3,7 +3,7 @@
 -- change between two single colours is judged by enclosures of their coordinates (own: floor and ceiling in parts of 2^40) or by a
 -- margin of 2^-24 of the squared distance (wide); where a tint isn't a single colour no red change is sure, and one is possible
 -- where the tint that has to be saturated holds a saturated corner. This is the project's own.
-use Rattle.std.specs.Prelude.{ℕ, ◌≡◌, ◌⊎◌, ◌+◌, ◌-◌, ◌*◌, ◌/◌, ◌^◌, ◌<◌, ◌≤◌, max}
+use Rattle.std.specs.Prelude.{ℕ, ◌≡◌, ◌⊎◌, ◌+◌, ◌-◌, ◌*◌, ◌/◌, ◌^◌, ◌<◌, max}
 use Rattle.page_model.specs.declared.colour.Rgb.{Rgb}
 use Rattle.page_model.specs.declared.colour.Tint.{Tint}
 use Rattle.page_model.specs.Light.{IsRise}
@@ -42,8 +42,8 @@ greatest_gap p q = max (p.hi - q.lo) (q.hi - p.lo)
 abbrev pub AreFarBy : (Enclosed → Enclosed → ℕ) → Chromaticity → Chromaticity → Type 0
 AreFarBy distance p q =
     2 ^ 80
-      < 25 * (squared (distance (enclosed p.u p.over) (enclosed q.u q.over))
-          + squared (distance (enclosed p.v p.over) (enclosed q.v q.over)))
+    < 25 * (squared (distance (enclosed p.u p.over) (enclosed q.u q.over))
+    + squared (distance (enclosed p.v p.over) (enclosed q.v q.over)))
 
 -- the squared distance of two points, over the squared product of the denominators
 abbrev pub squared_distance : Chromaticity → Chromaticity → ℕ

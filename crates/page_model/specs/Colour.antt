@@ -2,7 +2,7 @@
 -- order, each blended over what is there in eight bits. Over the states of the layers, which are handed in: so what is said of
 -- colours is said of the exact states, whatever they are, and nothing has to be found by search. The paint order is that of
 -- CSS 2 (z-index, then document order); blending in eight bits with its rounding is the project's own.
-use Rattle.std.specs.Prelude.{ℕ, ℤ, pos, Bool, Option, Some, ◌≡◌, ◌+◌, ◌-◌, ◌*◌, ◌/◌, ◌≤◌, ◌+ℤ◌, ◌&&◌, List, fold, slice_get, is_some, option_and_then, int_le, int_lt, if◌then◌else◌}
+use Rattle.std.specs.Prelude.{ℕ, ℤ, pos, Bool, Option, Some, ◌≡◌, ◌+◌, ◌-◌, ◌*◌, ◌/◌, ◌≤◌, ◌+ℤ◌, ◌&&◌, fold, slice_get, is_some, option_and_then, int_le, int_lt, if◌then◌else◌}
 use Rattle.page_model.specs.declared.setup.Setup.{Setup}
 use Rattle.page_model.specs.declared.colour.Rgb.{Rgb}
 use Rattle.page_model.specs.declared.scene.Layer.{Layer}
@@ -19,9 +19,10 @@ blended source alpha backdrop = (source * alpha + backdrop * (255 - alpha) + 127
 -- a state's colour over a backdrop
 abbrev pub over : State → Rgb → Rgb
 over state backdrop = record {
-    r = blended state.red state.alpha backdrop.r;
-    g = blended state.green state.alpha backdrop.g;
-    b = blended state.blue state.alpha backdrop.b }
+  r = blended state.red state.alpha backdrop.r;
+  g = blended state.green state.alpha backdrop.g;
+  b = blended state.blue state.alpha backdrop.b;
+}
 
 -- a state's own colour
 abbrev pub colour_of : State → Rgb

@@ -66,8 +66,9 @@ first_jumps Both = 1
 -- the output of a step easing: the jumps made by the current step, over all jumps
 abbrev pub stepped : ℕ → Jump → Fraction → Fraction
 stepped count jump at = record {
-    num = min (at.num * count / at.den + first_jumps jump) (jumps_of count jump);
-    den = jumps_of count jump }
+  num = min (at.num * count / at.den + first_jumps jump) (jumps_of count jump);
+  den = jumps_of count jump;
+}
 
 -- a times a fraction is b or more
 abbrev pub FractionReaches : Fraction → ℤ → ℤ → Type 0

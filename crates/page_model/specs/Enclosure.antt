@@ -3,7 +3,7 @@
 -- input each kind knows the value. One definition serves all three: a loose slot has the least and the greatest value that the
 -- slot takes over the set of eased values, so its lower end is the greatest v to which all of them round, and its upper end the
 -- greatest v to which some of them does. This is the project's own.
-use Rattle.std.specs.Prelude.{ℕ, ℤ, pos, negsuc, Bool, true, false, Option, Some, None, ◌≡◌, ◌+◌, ◌-◌, ◌*◌, ◌^◌, ◌+ℤ◌, ◌-ℤ◌, ◌*ℤ◌, ◌≤ℤ◌, ◌&&◌, nat_lt, nat_abs, if◌then◌else◌}
+use Rattle.std.specs.Prelude.{ℕ, ℤ, pos, negsuc, Bool, true, false, Option, Some, None, ◌≡◌, ◌*◌, ◌^◌, ◌+ℤ◌, ◌-ℤ◌, ◌*ℤ◌, ◌≤ℤ◌, ◌&&◌, nat_lt, nat_abs, if◌then◌else◌}
 use Rattle.std.specs.Int.{int_min, int_max, int_div_euclid}
 use Rattle.page_model.specs.declared.setup.Setup.{Setup}
 use Rattle.page_model.specs.declared.colour.Rgb.{Rgb}

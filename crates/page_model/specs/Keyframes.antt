@@ -1,6 +1,6 @@
 -- Between which two keyframes a property is: CSS Animations Level 1, "Keyframes". A value that is missing at 0% or 100% is the
 -- element's value without any animation. Offsets are in hundredths of a percent.
-use Rattle.std.specs.Prelude.{ℕ, Bool, false, not, Option, Some, None, ◌≡◌, ◌-◌, ◌*◌, ◌==◌, ◌&&◌, List, [], ◌∷◌, ◌++◌, length, nat_lt, nat_le, if◌then◌else◌, filter, filter_map, find, slice_get, option_map, option_and_then, unwrap_or, IsTrue, All}
+use Rattle.std.specs.Prelude.{ℕ, Bool, false, not, Option, None, ◌≡◌, ◌-◌, ◌*◌, ◌==◌, ◌&&◌, List, [], ◌∷◌, ◌++◌, length, nat_lt, nat_le, if◌then◌else◌, filter, filter_map, find, slice_get, option_map, option_and_then, unwrap_or, IsTrue, All}
 use Rattle.std.specs.List.{list_any}
 use Rattle.page_model.specs.declared.property.Prop.{Prop}
 use Rattle.page_model.specs.declared.property.Prop.TheVariants.{Background, Opacity, Visibility, Left, Top, Width, Height}
@@ -36,7 +36,7 @@ pub record Stop : Type 0 where
 abbrev pub stop_of : Prop → Keyframe → Option Stop
 stop_of prop frame =
     option_map (λ (value : Value). record { offset = frame.offset; value = value; easing = frame.easing })
-      (value_in prop frame.values)
+    (value_in prop frame.values)
 
 -- the keyframes that name the property
 abbrev pub stops_of : Prop → List Keyframe → List Stop
@@ -74,10 +74,11 @@ pub record Interval : Type 0 where
 
 abbrev pub interval_between : Easing → Fraction → Stop → Stop → Interval
 interval_between easing at first second = record {
-    from = first.value;
-    to = second.value;
-    easing = unwrap_or first.easing easing;
-    distance = distance first.offset second.offset at }
+  from = first.value;
+  to = second.value;
+  easing = unwrap_or first.easing easing;
+  distance = distance first.offset second.offset at;
+}
 
 -- The interval of a list of stops: from the last stop that is reached to the one after it.
 pub record IsInterval (easing : Easing) (at : Fraction) (stops : List Stop) (interval : Interval) : Type 0 where
@@ -101,8 +102,8 @@ first_of xs = slice_get xs 0
 abbrev pub interval_in : Easing → Fraction → List Stop → Option Interval
 interval_in easing at stops =
     option_and_then
-      (λ first. option_map (interval_between easing at first) (first_of (filter (λ stop. not (is_reached at stop)) stops)))
-      (last_of (filter (is_reached at) stops))
+    (λ first. option_map (interval_between easing at first) (first_of (filter (λ stop. not (is_reached at stop)) stops)))
+    (last_of (filter (is_reached at) stops))
 
 -- the interval of a property in a set, or none where the set doesn't name it
 abbrev pub interval_of : List Keyframe → Prop → Value → Easing → Fraction → Option Interval

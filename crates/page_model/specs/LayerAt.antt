@@ -2,10 +2,9 @@
 -- unless the winning declaration is important; else the declared value. CSS Animations Level 1, with the cascade's rule that an
 -- important declaration beats an animation. Which value a property has, or between which two it is, is computed; the whole values
 -- that follow are relations, since a curve's value is no fraction.
-use Rattle.std.specs.Prelude.{ℕ, ℤ, pos, Bool, true, false, Option, Some, None, ◌≡◌, ◌*◌, List, filter_map, slice_get, option_map, option_and_then, unwrap_or, if◌then◌else◌}
+use Rattle.std.specs.Prelude.{ℕ, ℤ, pos, Bool, true, false, Option, Some, None, ◌≡◌, ◌*◌, List, filter_map, slice_get, option_and_then, unwrap_or, if◌then◌else◌}
 use Rattle.page_model.specs.declared.setup.Setup.{Setup}
 use Rattle.page_model.specs.declared.colour.Rgb.{Rgb}
-use Rattle.page_model.specs.declared.easing.Easing.{Easing}
 use Rattle.page_model.specs.declared.easing.Easing.TheVariants.{Linear}
 use Rattle.page_model.specs.declared.animation.Anim.{Anim}
 use Rattle.page_model.specs.declared.keyframe.KeyframeSet.{KeyframeSet}
@@ -16,7 +15,7 @@ use Rattle.page_model.specs.declared.property.Value.TheVariants as value
 use Rattle.page_model.specs.declared.scene.Held.{Held}
 use Rattle.page_model.specs.declared.scene.Layer.{Layer}
 use Rattle.page_model.specs.declared.scene.Scene.{Scene}
-use Rattle.page_model.specs.Fraction.{Fraction, zero_of_one}
+use Rattle.page_model.specs.Fraction.{zero_of_one}
 use Rattle.page_model.specs.Keyframes.{Interval, interval_of, last_of}
 use Rattle.page_model.specs.Progress.{progress_of}
 use Rattle.page_model.specs.Slot.{Slot, channel, alpha, position, extent, IsSlotValue, IsShownValue}
@@ -49,8 +48,8 @@ is_held held Height = held.height
 abbrev pub interval_at : List KeyframeSet → Setup → ℕ → Prop → Value → Anim → Option Interval
 interval_at sets setup frame prop own anim =
     option_and_then
-      (λ (set : KeyframeSet). option_and_then (interval_of set.frames prop own anim.easing) (progress_of setup anim frame))
-      (slice_get sets anim.set)
+    (λ (set : KeyframeSet). option_and_then (interval_of set.frames prop own anim.easing) (progress_of setup anim frame))
+    (slice_get sets anim.set)
 
 -- the course of a property: it stays at a value, or is on its way from one to another
 pub data Course : Type 0 where
@@ -66,7 +65,7 @@ abbrev pub course_of : Scene → Setup → ℕ → Layer → Prop → Course
 course_of scene setup frame layer prop =
     if is_held layer.important prop then still (declared layer prop)
     else course_by (declared layer prop)
-      (last_of (filter_map (interval_at scene.sets setup frame prop (declared layer prop)) layer.anims))
+    (last_of (filter_map (interval_at scene.sets setup frame prop (declared layer prop)) layer.anims))
 
 -- the parts of a value: a channel of a colour, 255 times the thousandths of an opacity, the hundredths of a length
 abbrev pub red_of : Value → ℤ

@@ -113,7 +113,7 @@ active_time_in after fill elapsed length = if fills_after fill then Some (above_
 abbrev pub active_time_of : Setup → Anim → ℕ → Option ℕ
 active_time_of setup anim frame =
     active_time_in (phase_of setup anim frame) anim.fill (local_time_of setup anim frame -ℤ delay_of setup anim)
-      (active_duration_of setup anim)
+    (active_duration_of setup anim)
 
 -- a number of iterations: a fraction, or infinitely many
 pub data Iterations : Type 0 where

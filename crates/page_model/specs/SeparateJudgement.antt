@@ -2,7 +2,7 @@
 -- too many frames, the viewport is cut by each box in the frames that its own animations need, each cell is looked at in the
 -- frames that the layers which meet it need, and if the pixels that are possibly flagged in any window of their own cell nowhere
 -- fill more than a quarter of the rectangle, no window of the page is bad. This is the project's own.
-use Rattle.std.specs.Prelude.{ℕ, ℤ, Bool, Some, ◌≡◌, ◌≢◌, ◌⊎◌, ◌↔◌, ◌+◌, ◌*◌, ◌<◌, ◌≤◌, List, length, slice_get, slice_index, IsTrue, IsSome}
+use Rattle.std.specs.Prelude.{ℕ, ℤ, Bool, Some, ◌≡◌, ◌≢◌, ◌⊎◌, ◌↔◌, ◌+◌, ◌*◌, ◌<◌, ◌≤◌, List, length, slice_get, slice_index, IsSome}
 use Rattle.std.specs.List.{items_where_true}
 use Rattle.page_model.specs.declared.setup.Setup.{Setup}
 use Rattle.page_model.specs.declared.scene.Layer.{Layer}

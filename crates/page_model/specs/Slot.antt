@@ -1,7 +1,7 @@
 -- The whole value of a slot: a channel, an alpha or a length, rounded half up and held in its range. From one value to another
 -- at an eased value E it is the greatest whole v for which (to - from) E reaches unit (v - 1/2) - from. The rounding is the
 -- project's own; interpolation is that of CSS Animations Level 1 and its property types.
-use Rattle.std.specs.Prelude.{ℕ, ℤ, pos, negsuc, neg_ℤ, Bool, true, false, ◌≡◌, ◌+◌, ◌*◌, ◌+ℤ◌, ◌-ℤ◌, ◌*ℤ◌, ◌≤ℤ◌, ◌<ℤ◌}
+use Rattle.std.specs.Prelude.{ℕ, ℤ, pos, negsuc, neg_ℤ, Bool, true, false, ◌≡◌, ◌*◌, ◌+ℤ◌, ◌-ℤ◌, ◌*ℤ◌, ◌≤ℤ◌, ◌<ℤ◌}
 use Rattle.std.specs.Int.{int_min, int_max, int_div_euclid}
 use Rattle.page_model.specs.declared.easing.Easing.{Easing}
 use Rattle.page_model.specs.Curve.{Reaches}
@@ -59,7 +59,7 @@ held slot v = int_max slot.least (int_min v slot.greatest)
 abbrev pub rounded : Slot → ℤ → ℤ → Fraction → ℤ
 rounded slot from to x =
     int_div_euclid (pos 2 *ℤ (to -ℤ from) *ℤ pos x.num +ℤ pos 2 *ℤ from *ℤ pos x.den +ℤ pos (slot.unit * x.den))
-      (pos (2 * slot.unit * x.den))
+    (pos (2 * slot.unit * x.den))
 
 abbrev pub slot_value : Slot → ℤ → ℤ → Fraction → ℤ
 slot_value slot from to x = held slot (rounded slot from to x)

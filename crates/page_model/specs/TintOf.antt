@@ -1,7 +1,7 @@
 -- The tint of a pixel: the least and the greatest colour that it may have, channel by channel, where the states of the layers
 -- are known loosely. Boxes are painted as in `Colour`, over both ends of source, alpha and backdrop; where a box may or may not
 -- be shown there, the tint holds what is there with it and without it. This is the project's own.
-use Rattle.std.specs.Prelude.{ℕ, ℤ, pos, negsuc, Bool, Some, ◌≡◌, ◌+◌, ◌≤◌, min, max, ◌+ℤ◌, List, fold, slice_get, is_some, int_le, int_lt, if◌then◌else◌}
+use Rattle.std.specs.Prelude.{ℕ, pos, Some, ◌≡◌, ◌+◌, ◌≤◌, min, max, ◌+ℤ◌, fold, slice_get, is_some, int_le, int_lt, if◌then◌else◌}
 use Rattle.page_model.specs.declared.setup.Setup.{Setup}
 use Rattle.page_model.specs.declared.colour.Rgb.{Rgb}
 use Rattle.page_model.specs.declared.colour.Tint.{Tint}
@@ -46,10 +46,11 @@ greatest_of a b c d = max (max a b) (max c d)
 
 abbrev pub blended_at : Span → ℕ → Span → Span
 blended_at source alpha backdrop = record {
-    lo = least_of (blended source.lo alpha backdrop.lo) (blended source.lo alpha backdrop.hi)
+  lo = least_of (blended source.lo alpha backdrop.lo) (blended source.lo alpha backdrop.hi)
       (blended source.hi alpha backdrop.lo) (blended source.hi alpha backdrop.hi);
-    hi = greatest_of (blended source.lo alpha backdrop.lo) (blended source.lo alpha backdrop.hi)
-      (blended source.hi alpha backdrop.lo) (blended source.hi alpha backdrop.hi) }
+  hi = greatest_of (blended source.lo alpha backdrop.lo) (blended source.lo alpha backdrop.hi)
+      (blended source.hi alpha backdrop.lo) (blended source.hi alpha backdrop.hi);
+}
 
 -- two spans, and all that lies between them
 abbrev pub hull : Span → Span → Span
@@ -64,8 +65,9 @@ span_of loose = record { lo = above_zero loose.lo; hi = above_zero loose.hi }
 
 abbrev pub tint_by : Span → Span → Span → Tint
 tint_by red green blue = record {
-    lo = record { r = red.lo; g = green.lo; b = blue.lo };
-    hi = record { r = red.hi; g = green.hi; b = blue.hi } }
+  lo = record { r = red.lo; g = green.lo; b = blue.lo };
+  hi = record { r = red.hi; g = green.hi; b = blue.hi };
+}
 
 -- the spans of a tint's channels
 abbrev pub red_span : Tint → Span
@@ -81,8 +83,8 @@ blue_span tint = record { lo = tint.lo.b; hi = tint.hi.b }
 abbrev pub tint_over : LooseState → Tint → Tint
 tint_over state backdrop =
     tint_by (blended_span (span_of state.red) (span_of state.alpha) (red_span backdrop))
-      (blended_span (span_of state.green) (span_of state.alpha) (green_span backdrop))
-      (blended_span (span_of state.blue) (span_of state.alpha) (blue_span backdrop))
+    (blended_span (span_of state.green) (span_of state.alpha) (green_span backdrop))
+    (blended_span (span_of state.blue) (span_of state.alpha) (blue_span backdrop))
 
 abbrev pub tint_hull : Tint → Tint → Tint
 tint_hull a b =

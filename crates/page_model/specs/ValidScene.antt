@@ -1,7 +1,6 @@
 -- What holds of each scene that is judged: numbers in their limits, places that exist, lists in order. Lengths are in hundredths
 -- of a pixel, opacity in thousandths, times in ms, offsets in hundredths of a percent, counts and curve points in thousandths.
-use Rattle.std.specs.Prelude.{ℕ, ℤ, pos, neg_ℤ, Bool, false, true, Option, ◌≡◌, ◌⊎◌, ◌↔◌, ◌+◌, ◌<◌, ◌≤◌, ◌≤ℤ◌, ◌<ℤ◌, List, length, slice_get, slice_index, Some, None, IsSome, IsTrue, IfSome, All, Contains}
-use Rattle.std.specs.List.Sorted.{IsStrictlyIncreasing}
+use Rattle.std.specs.Prelude.{ℕ, ℤ, pos, neg_ℤ, false, true, ◌≡◌, ◌⊎◌, ◌↔◌, ◌<◌, ◌≤◌, ◌≤ℤ◌, ◌<ℤ◌, List, length, slice_get, slice_index, Some, IsSome, IfSome, All, Contains}
 use Rattle.page_model.specs.declared.animation.Anim.{Anim}
 use Rattle.page_model.specs.declared.animation.Count.{Count}
 use Rattle.page_model.specs.declared.animation.Count.TheVariants.{Times, Infinite}

@@ -35,12 +35,12 @@ SurelyOut wide a b = IsSurelyOutOfRedWidely a b
 abbrev pub PossiblyFlashes : Kind → (ℕ → Tint) → ℕ → ℕ → Type 0
 PossiblyFlashes kind tints start window =
     HasChain IsPossibleRise IsPossibleFall tints start window
-      ⊎ HasChain (PossiblyInto kind) (PossiblyOut kind) tints start window
+    ⊎ HasChain (PossiblyInto kind) (PossiblyOut kind) tints start window
 
 abbrev pub SurelyFlashes : Kind → (ℕ → Tint) → ℕ → ℕ → Type 0
 SurelyFlashes kind tints start window =
     HasChain IsSureRise IsSureFall tints start window
-      ⊎ HasChain (SurelyInto kind) (SurelyOut kind) tints start window
+    ⊎ HasChain (SurelyInto kind) (SurelyOut kind) tints start window
 
 -- a pixel is possibly, or surely, flagged by the tints of all pixels
 abbrev pub IsPossiblyFlagged : Kind → (ℕ → ℕ → ℕ → Tint) → Setup → ℕ → ℕ → ℕ → Type 0
