@@ -1,0 +1,4 @@
+pub mod CurveLemmas
+pub mod GreatestLemmas
+pub mod LinearLemmas
+mod TableLemmas

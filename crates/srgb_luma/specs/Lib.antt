@@ -1,0 +1,1 @@
+pub use Rattle.page_model.specs.Light
