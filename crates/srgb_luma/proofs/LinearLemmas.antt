@@ -1,9 +1,9 @@
--- The linear light of a channel: how to show its value, that it is at most 2^32, and that it grows with the channel.
-use Rattle.std.proofs.Common.{◌≡◌, ℕ, suc, ◌*◌, ◌/◌, ◌^◌, ◌<◌, ◌≤◌, true, false, refl, arith, inl, inr}
+-- The linear light of a channel: how to show its value, and that it is at most 2^32.
+use Rattle.std.proofs.Common.{◌≡◌, ℕ, suc, ◌*◌, ◌/◌, ◌^◌, ◌<◌, ◌≤◌, true, false, arith, inl, inr}
 use Rattle.std.proofs.lemmas.Bool.{cases_lt, le-leb, lt-leb}
 use Rattle.page_model.specs.Light.{greatest_up_to, is_below_curve, linear_of}
-use Rattle.srgb_luma.proofs.GreatestLemmas.{greatest_up_to_le, greatest_up_to-edge, greatest_up_to-mono}
-use Rattle.srgb_luma.proofs.CurveLemmas.{is_below_curve-antitone, is_below_curve-channel}
+use Rattle.srgb_luma.proofs.GreatestLemmas.{greatest_up_to_le, greatest_up_to-edge}
+use Rattle.srgb_luma.proofs.CurveLemmas.{is_below_curve-antitone}
 
 -- up to 10 it is in proportion to the channel
 pub linear_of-low : (c : ℕ) → c ≤ 10 → linear_of c ≡ c * 5 * 2 ^ 32 / 16473
@@ -15,31 +15,15 @@ pub linear_of-high : (c : ℕ) → 10 < c → linear_of c ≡ greatest_up_to (2 
 unfolding linear_of
 linear_of-high c high = rw (lt-leb c 10 high)
 
--- a number that is below the curve where the next one is not
+-- above 10 it is the number that is below the curve where the next one is not: at two numerals both tests are `refl`
 pub linear_of-edge : (c n : ℕ) → 10 < c → n ≤ 2 ^ 32 → is_below_curve c n ≡ true → is_below_curve c (suc n) ≡ false → linear_of c ≡ n
 linear_of-edge c n high within passes fails =
     rw (linear_of-high c high) (greatest_up_to-edge (2 ^ 32) n (is_below_curve c) (is_below_curve-antitone c) within passes fails)
 
+-- it is at most 2^32, at any channel
 pub linear_of_le : (c : ℕ) → linear_of c ≤ 2 ^ 32
 linear_of_le c =
     elim (cases_lt 10 c) [
       | inl high ↦ rw (linear_of-high c high) (greatest_up_to_le (2 ^ 32) (is_below_curve c))
       | inr low ↦ rw (linear_of-low c low) (omega arith)
     ]
-
-pub linear_of-mono : (c d : ℕ) → c ≤ d → linear_of c ≤ linear_of d
-linear_of-mono c d above =
-    elim (cases_lt 10 d) [
-      | inl high ↦ elim (cases_lt 10 c) [
-        | inl both ↦ rw (linear_of-high c both, linear_of-high d high) (greatest_up_to-mono (2 ^ 32) (is_below_curve c) (is_below_curve d) (λ n. is_below_curve-channel c d n above))
-        | inr low ↦ across c d low high
-      ]
-      | inr low ↦ rw (linear_of-low c (omega arith), linear_of-low d low) (omega arith)
-    ] where
-      across : (c d : ℕ) → c ≤ 10 → 10 < d → linear_of c ≤ linear_of d
-      across c d low high =
-          let at_low : c * 5 * 2 ^ 32 / 16473 ≤ 14373261 = omega arith in
-          let eleven = linear_of-edge 11 14373261 (omega arith) (omega arith) refl refl in
-          let first = greatest_up_to-mono (2 ^ 32) (is_below_curve 11) (is_below_curve d) (λ n. is_below_curve-channel 11 d n high) in
-          let h = linear_of-high 11 (omega arith) in
-          rw (linear_of-low c low, linear_of-high d high) (omega arith)
