@@ -20,8 +20,11 @@ larger_right a b p s above h =
     let q = leb-true p (a ^ 12 * s) h in
     le-leb p (b ^ 12 * s) (omega arith)
 
+-- below a number that is below the curve each one is
 pub is_below_curve-antitone : (c : ℕ) → IsAntitone (is_below_curve c)
 is_below_curve-antitone c m n below h = smaller_left m n (10761 ^ 12) ((40 * c + 561) ^ 12 * 2 ^ 160) below h
 
+-- a number below the curve at a channel is so at a higher one
 pub is_below_curve-channel : (c d n : ℕ) → c ≤ d → is_below_curve c n ≡ true → is_below_curve d n ≡ true
-is_below_curve-channel c d n above h = larger_right (40 * c + 561) (40 * d + 561) (n ^ 5 * 10761 ^ 12) (2 ^ 160) (omega arith) h
+is_below_curve-channel c d n above h =
+    larger_right (40 * c + 561) (40 * d + 561) (n ^ 5 * 10761 ^ 12) (2 ^ 160) (omega arith) h

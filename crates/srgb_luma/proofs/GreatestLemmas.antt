@@ -18,7 +18,9 @@ greatest_up_to_le (suc n) test =
     ]
 
 -- the last number that passes is it
-pub greatest_up_to-last : (limit n : ℕ) (test : ℕ → Bool) → n ≤ limit → test n ≡ true → ((m : ℕ) → n < m → test m ≡ false) → greatest_up_to limit test ≡ n
+pub greatest_up_to-last :
+    (limit n : ℕ) (test : ℕ → Bool) → n ≤ limit → test n ≡ true → ((m : ℕ) → n < m → test m ≡ false)
+    → greatest_up_to limit test ≡ n
 unfolding greatest_up_to
 greatest_up_to-last zero n test within passes above = omega arith
 greatest_up_to-last (suc k) n test within passes above =
@@ -28,12 +30,17 @@ greatest_up_to-last (suc k) n test within passes above =
     ]
 
 -- n passes, n + 1 does not, and the test is antitone: so n is the greatest
-pub greatest_up_to-edge : (limit n : ℕ) (test : ℕ → Bool) → IsAntitone test → n ≤ limit → test n ≡ true → test (suc n) ≡ false → greatest_up_to limit test ≡ n
+pub greatest_up_to-edge :
+    (limit n : ℕ) (test : ℕ → Bool) → IsAntitone test → n ≤ limit → test n ≡ true → test (suc n) ≡ false
+    → greatest_up_to limit test ≡ n
 greatest_up_to-edge limit n test antitone within passes fails =
-    greatest_up_to-last limit n test within passes (λ m above. false_from_ne_true (test m) (λ e. let p = antitone (suc n) m (omega arith) e in cc))
+    greatest_up_to-last limit n test within passes
+    (λ m above. false_from_ne_true (test m) (λ e. let p = antitone (suc n) m (omega arith) e in cc))
 
 -- a test that passes more has no smaller greatest number
-pub greatest_up_to-mono : (limit : ℕ) (test more : ℕ → Bool) → ((n : ℕ) → test n ≡ true → more n ≡ true) → greatest_up_to limit test ≤ greatest_up_to limit more
+pub greatest_up_to-mono :
+    (limit : ℕ) (test more : ℕ → Bool) → ((n : ℕ) → test n ≡ true → more n ≡ true)
+    → greatest_up_to limit test ≤ greatest_up_to limit more
 unfolding greatest_up_to
 greatest_up_to-mono zero test more implied = omega arith
 greatest_up_to-mono (suc n) test more implied =

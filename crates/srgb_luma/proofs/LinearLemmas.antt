@@ -15,10 +15,13 @@ pub linear_of-high : (c : ℕ) → 10 < c → linear_of c ≡ greatest_up_to (2 
 unfolding linear_of
 linear_of-high c high = rw (lt-leb c 10 high)
 
--- above 10 it is the number that is below the curve where the next one is not: at two numerals both tests are `refl`
-pub linear_of-edge : (c n : ℕ) → 10 < c → n ≤ 2 ^ 32 → is_below_curve c n ≡ true → is_below_curve c (suc n) ≡ false → linear_of c ≡ n
+-- above 10 it is the number that is below the curve where the next one is not; at numerals `refl` is both tests
+pub linear_of-edge :
+    (c n : ℕ) → 10 < c → n ≤ 2 ^ 32 → is_below_curve c n ≡ true → is_below_curve c (suc n) ≡ false
+    → linear_of c ≡ n
 linear_of-edge c n high within passes fails =
-    rw (linear_of-high c high) (greatest_up_to-edge (2 ^ 32) n (is_below_curve c) (is_below_curve-antitone c) within passes fails)
+    rw (linear_of-high c high)
+    (greatest_up_to-edge (2 ^ 32) n (is_below_curve c) (is_below_curve-antitone c) within passes fails)
 
 -- it is at most 2^32, at any channel
 pub linear_of_le : (c : ℕ) → linear_of c ≤ 2 ^ 32

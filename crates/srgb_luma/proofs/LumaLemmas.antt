@@ -6,6 +6,7 @@ use Rattle.page_model.specs.Red.{white}
 use Rattle.srgb_luma.proofs.LinearLemmas.{linear_of-low, linear_of-edge, linear_of_le}
 use Rattle.srgb_luma.proofs.GrowthLemmas.{linear_of-mono, linear_of-strict}
 
+-- no light at all
 abbrev pub black : Rgb
 black = record { r = 0; g = 0; b = 0 }
 

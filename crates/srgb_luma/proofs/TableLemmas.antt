@@ -19,6 +19,7 @@ abbrev are_entries : ℕ → List ℕ → Bool
 are_entries c [] = true
 are_entries c (n ∷ rest) = is_entry c n && are_entries (suc c) rest
 
+-- such a number is the linear light
 linear_of-is_edge : (c n : ℕ) → 10 < c → is_edge c n ≡ true → linear_of c ≡ n
 linear_of-is_edge c n high h =
     let parts = and_parts (nat_le n (2 ^ 32)) (is_below_curve c n && not (is_below_curve c (suc n))) h in
@@ -32,7 +33,10 @@ linear_of-is_entry c n h =
       | inr low ↦ rw (linear_of-low c low) (sym (eqb-true n (c * 5 * 2 ^ 32 / 16473) (rw (le-leb c 10 low) at h)))
     ]
 
-entry : (table : List ℕ) (first i c : ℕ) → are_entries first table ≡ true → i < length table → c ≡ first + i → is_entry c (get_or table i 0) ≡ true
+-- each of the numbers is one
+entry :
+    (table : List ℕ) (first i c : ℕ) → are_entries first table ≡ true → i < length table → c ≡ first + i
+    → is_entry c (get_or table i 0) ≡ true
 entry [] first i c h within e = absurd (omega arith)
 entry (n ∷ rest) first zero c h within e =
     let same : first ≡ c = omega arith in
@@ -40,6 +44,7 @@ entry (n ∷ rest) first zero c h within e =
 entry (n ∷ rest) first (suc i) c h within e =
     entry rest (suc first) i c (and_parts (is_entry first n) (are_entries (suc first) rest) h).1 (omega arith) (omega arith)
 
+-- the tests compute to true over the whole table
 pub linear_of-LINEAR : (c : ℕ) → c < 256 → get_or LINEAR c 0 ≡ linear_of c
 linear_of-LINEAR c within = sym (linear_of-is_entry c (get_or LINEAR c 0) (entry LINEAR 0 c c refl within (omega arith)))
 
