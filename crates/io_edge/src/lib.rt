@@ -1,0 +1,12 @@
+//! Reading and writing, at the edge of the program.
+#![tactic(auto)]
+
+mod fault;
+mod sink;
+mod source;
+mod writing;
+
+pub use fault::{SinkFault, SourceFault};
+pub use sink::Sink;
+pub use source::Source;
+pub use writing::write_all;
