@@ -1,0 +1,39 @@
+-- What was taken of a file so far.
+use Rattle.std.proofs.Common.{◌≡◌, ℕ, ◌+◌, ◌<◌, List, [], ◌++◌, Option, None, Some, IfSome, length, drop, sym, subst, refl, ap, ◌∙◌, append-nil, length-append, arith}
+use Rattle.std.proofs.Math.Seq.{drop-append_seam}
+use Rattle.std.specs.Io.KnownBytes.{Consumes, IsAtEnd}
+use Rattle.std.proofs.KnownBytes.{Consumes-trans}
+use Rattle.io_edge.specs.Files.{Files, bytes_of, Opens}
+use Rattle.io_edge.specs.Reading.{IsFile, IsLonger, IsBehind}
+
+-- where the files are told, these bytes and then the rest are that name's
+abbrev pub HasTaken : Option Files → List ℕ → Option (List ℕ) → List ℕ → Type 0
+HasTaken files name rest bytes = IfSome files (λ files. Consumes (Some (bytes_of files name)) rest bytes)
+
+pub taken_none : (files : Option Files) (name : List ℕ) (rest : Option (List ℕ)) → Opens files name rest → HasTaken files name rest []
+taken_none None name rest h = tt
+taken_none (Some files) name rest h = subst (λ r. Consumes (Some (bytes_of files name)) r []) (sym h) refl
+
+pub taken_more : (files : Option Files) (name : List ℕ) (old new : Option (List ℕ)) (bytes more : List ℕ) → HasTaken files name old bytes → Consumes old new more → HasTaken files name new (bytes ++ more)
+taken_more None name old new bytes more h c = tt
+taken_more (Some files) name old new bytes more h c = Consumes-trans (Some (bytes_of files name)) old new bytes more h c
+
+pub taken_all : (files : Option Files) (name : List ℕ) (rest : Option (List ℕ)) (bytes : List ℕ) → HasTaken files name rest bytes → IsAtEnd rest → IsFile files name bytes
+taken_all None name rest bytes h e = tt
+taken_all (Some files) name None bytes h e = absurd h
+taken_all (Some files) name (Some rest) bytes h e = sym (h ∙ ap (λ r. bytes ++ r) e ∙ append-nil bytes)
+
+pub taken_longer : (files : Option Files) (name : List ℕ) (rest : Option (List ℕ)) (bytes : List ℕ) (limit : ℕ) → HasTaken files name rest bytes → length bytes ≡ limit + 1 → IsLonger files name limit
+taken_longer None name rest bytes limit h e = tt
+taken_longer (Some files) name None bytes limit h e = absurd h
+taken_longer (Some files) name (Some rest) bytes limit h e =
+    let all : length (bytes_of files name) ≡ length (bytes ++ rest) = ap length h in
+    omega (arith, length-append bytes rest)
+
+pub taken_behind : (files : Option Files) (name : List ℕ) (rest : Option (List ℕ)) (bytes : List ℕ) (count : ℕ) → HasTaken files name rest bytes → length bytes ≡ count → IsBehind files name count rest
+taken_behind None name rest bytes count h e = tt
+taken_behind (Some files) name None bytes count h e = absurd h
+taken_behind (Some files) name (Some rest) bytes count h e =
+    ap Some (sym (ap (drop count) h ∙ subst (λ n. drop n (bytes ++ rest) ≡ rest) e (drop-append_seam bytes rest)))
+
+pub ruleset taken = (taken_none, taken_more, taken_all, taken_longer, taken_behind)
