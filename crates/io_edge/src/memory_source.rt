@@ -1,0 +1,136 @@
+// Files in memory, as a source that fails where it is told to.
+ghost use Rattle.std.specs.Prelude.{◌≡◌, ◌++◌, ◌∷◌, [], ◌≤◌, not, min, is_ok, length, take, drop, IfOk, OnOk, OnErr};
+ghost use Rattle.std.specs.FinMap as map;
+ghost use Rattle.io_edge.specs.Faults.{HasCause};
+ghost use Rattle.io_edge.specs.Files.{Opens, SameNames};
+ghost use Rattle.io_edge.specs.Reading.{Reads};
+ghost use Rattle.io_edge.specs.Shelf.{filled};
+ghost use Rattle.io_edge.specs.SourceState.{after_open, after_read, fails_next, opens};
+
+use crate::calls::{is_named, raised};
+use crate::fault::SourceFault;
+use crate::shelf::{File, Place, newest, read_on};
+use crate::source::Source;
+use page_model::NoMemory;
+use std::alloc::Global;
+use std::marker::Model;
+
+/// A source whose files lie in memory. It may be asked for every name, and fails at the calls that
+/// are named for it, and where no file has the name.
+#[derive(Drop)]
+pub struct MemorySource {
+    alloc: Global,
+    // the oldest first: bytes that were replaced stay, since they may be what is being read
+    files: Vec<File>,
+    reading: Option<Place>,
+    failing: Vec<u32>,
+    calls: u64,
+    faults: u64,
+}
+
+impl Model for MemorySource {
+    ghost use Rattle.io_edge.specs.Shelf.{files_of, rest_of, IsPlaceIn};
+    ghost use Rattle.io_edge.specs.SourceState.{SourceState, source_code};
+
+    ghost Value = { SourceState };
+
+    ghost coded = { source_code };
+
+    ghost view = { λ s. record {
+      files = files_of s.files.items;
+      rest = rest_of s.files.items s.reading;
+      failing = s.failing.items;
+      calls = s.calls;
+      faults = s.faults;
+    } };
+
+    ghost invariant = { λ s. IsPlaceIn s.files.items s.reading };
+}
+
+impl MemorySource {
+    /// A source with no file, of which nothing is open. It keeps the allocator for later files.
+    pub fn new(alloc: Global) -> MemorySource
+        ensures { result ≡ record { files = map.empty; rest = []; failing = []; calls = 0; faults = 0 } }
+    {
+        MemorySource {
+            alloc,
+            files: Vec::new(alloc),
+            reading: None,
+            failing: Vec::new(alloc),
+            calls: 0,
+            faults: 0,
+        }
+    }
+
+    #[tactic(auto, using(crate::proofs::Newest::one_more_file))]
+    /// Gives a name these bytes, in place of those that it had. What is being read stays as it is.
+    pub fn add(&mut self, name: &str, bytes: &[u8]) -> Result<(), NoMemory>
+        ensures ok { OnOk result (self.new ≡
+            record self.old { files = map.insert self.old.files name.now bytes.now }) }
+        ensures err { OnErr result (self.new ≡ self.old) }
+    {
+        let file = File {
+            name: Vec::from_slice(self.alloc, name.as_bytes())?,
+            bytes: Vec::from_slice(self.alloc, bytes)?,
+        };
+        self.files.push(file)?;
+        Ok(())
+    }
+
+    /// Names a call of `open` or `read` that is to fail. They are numbered together, from 1.
+    pub fn fail_at(&mut self, call: u32) -> Result<(), NoMemory>
+        ensures ok { OnOk result (self.new ≡
+            record self.old { failing = self.old.failing ++ call ∷ [] }) }
+        ensures err { OnErr result (self.new ≡ self.old) }
+    {
+        self.failing.push(call)?;
+        Ok(())
+    }
+}
+
+impl Source for MemorySource {
+    ghost use Rattle.std.specs.Prelude.{Some, ⊤};
+
+    ghost files = { λ s. Some s.files };
+
+    ghost rest = { λ s. Some s.rest };
+
+    ghost faults = { λ s. s.faults };
+
+    ghost may_open = { λ _ _. ⊤ };
+
+    fn open(&mut self, name: &str) -> Result<(), SourceFault>
+        ensures answer { is_ok result ≡ opens self.old name.now }
+        ensures state { self.new ≡ after_open self.old name.now }
+        ensures cause { HasCause self.old.faults self.new.faults result }
+    {
+        self.calls = raised(self.calls);
+        if !is_named(self.failing.as_slice(), self.calls) {
+            if let Some(file) = newest(self.files.as_slice(), name.as_bytes()) {
+                self.reading = Some(Place { file, at: 0 });
+                return Ok(());
+            }
+        }
+        self.faults = raised(self.faults);
+        Err(SourceFault)
+    }
+
+    fn read(&mut self, buf: &mut [u8]) -> Result<usize, SourceFault>
+        ensures answer { is_ok result ≡ not (fails_next self.old) }
+        ensures count { IfOk result (λ n. n ≡ min (length buf.old) (length self.old.rest)) }
+        ensures buffer { OnOk result (buf.new ≡ filled buf.old self.old.rest) }
+        ensures kept { OnErr result (buf.new ≡ buf.old) }
+        ensures state { self.new ≡ after_read self.old (length buf.old) }
+        ensures cause { HasCause self.old.faults self.new.faults result }
+    {
+        self.calls = raised(self.calls);
+        if is_named(self.failing.as_slice(), self.calls) {
+            self.faults = raised(self.faults);
+            return Err(SourceFault);
+        }
+        let Some(place) = &mut self.reading else {
+            return Ok(0);
+        };
+        Ok(read_on(self.files.as_slice(), place, buf))
+    }
+}
