@@ -1,0 +1,28 @@
+-- Which words spell which command.
+use Rattle.std.specs.Prelude.{◌≡◌, ℕ, List, [], ◌∷◌, ◌++◌, Ok, codes, decimal}
+use Rattle.page_model.specs.Viewing.{Viewing, setup_of}
+use Rattle.flash_top.specs.declared.words.Command.{Command}
+use Rattle.flash_top.specs.declared.words.Command.TheVariants.{Check}
+
+-- a size is a width, an `x` (120) and a height; size and rate are those of a setup, and each number is
+-- written in decimal digits, with no sign and no leading zero
+pub record SpellsSetup (size rate : List ℕ) (setup : Viewing) : Type 0 where
+  pub width : ℕ
+  pub height : ℕ
+  pub frames : ℕ
+  pub size_is : size ≡ decimal width ++ 120 ∷ decimal height
+  pub rate_is : rate ≡ decimal frames
+  pub setup_is : setup_of width height frames ≡ Ok setup
+
+-- `check` PAGE SIZE RATE, where any word is a PAGE
+pub record SpellsCheck (words : List (List ℕ)) (page : ℕ) (setup : Viewing) : Type 0 where
+  pub name : List ℕ
+  pub size : List ℕ
+  pub rate : List ℕ
+  pub words_are : words ≡ codes "check" ∷ name ∷ size ∷ rate ∷ []
+  pub page_is : page ≡ 1
+  pub setup_is : SpellsSetup size rate setup
+
+-- the words spell the command: its name and what goes with it, in this order, and no more
+abbrev pub Spells : List (List ℕ) → Command → Type 0
+Spells words (Check page setup) = SpellsCheck words page setup
