@@ -22,19 +22,19 @@ parts_of_four a b c d e f g h same = (cc, cc)
 pub spells_check : (words : List (List ℕ)) (name page size rate : List ℕ) (s : Viewing) → words ≡ name ∷ page ∷ size ∷ rate ∷ []
     → name ≡ codes "check" → SpellsSetup size rate s → SpellsCheck words 1 s
 spells_check words name page size rate s e named good =
-    record { name = page; size = size; rate = rate; words_are = cc; page_is = refl; setup_is = good }
+    record { page_name = page; size = size; rate = rate; words_are = cc; page_is = refl; setup_is = good }
 
 -- and what they spell is that check
 pub check_spelled : (words : List (List ℕ)) (name page size rate : List ℕ) (place : ℕ) (s : Viewing) → words ≡ name ∷ page ∷ size ∷ rate ∷ []
     → SpellsCheck words place s → (place ≡ 1) × SpellsSetup size rate s
 check_spelled words name page size rate place s e w =
-    let parts = parts_of_four name page size rate (codes "check") w.name w.size w.rate (sym e ∙ w.words_are) in
+    let parts = parts_of_four name page size rate (codes "check") w.page_name w.size w.rate (sym e ∙ w.words_are) in
     let good = w.setup_is in (
       w.page_is,
       record {
         width = good.width;
         height = good.height;
-        frames = good.frames;
+        frames_per_second = good.frames_per_second;
         size_is = parts.0 ∙ good.size_is;
         rate_is = parts.1 ∙ good.rate_is;
         setup_is = good.setup_is;

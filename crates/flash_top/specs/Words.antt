@@ -4,22 +4,22 @@ use Rattle.page_model.specs.Viewing.{Viewing, setup_of}
 use Rattle.flash_top.specs.declared.words.Command.{Command}
 use Rattle.flash_top.specs.declared.words.Command.TheVariants.{Check}
 
--- a size is a width, an `x` (120) and a height; size and rate are those of a setup, and each number is
--- written in decimal digits, with no sign and no leading zero
+-- SIZE and RATE spell a setup: SIZE is its width, an `x` (120) and its height, and RATE its rate, each number
+-- in decimal digits, with no sign and with no leading zero but in 0 itself
 pub record SpellsSetup (size rate : List ℕ) (setup : Viewing) : Type 0 where
   pub width : ℕ
   pub height : ℕ
-  pub frames : ℕ
+  pub frames_per_second : ℕ
   pub size_is : size ≡ decimal width ++ 120 ∷ decimal height
-  pub rate_is : rate ≡ decimal frames
-  pub setup_is : setup_of width height frames ≡ Ok setup
+  pub rate_is : rate ≡ decimal frames_per_second
+  pub setup_is : setup_of width height frames_per_second ≡ Ok setup
 
--- `check` PAGE SIZE RATE, where any word is a PAGE
+-- `check` PAGE SIZE RATE, where any word is a PAGE: judge the page that the word at place 1 names
 pub record SpellsCheck (words : List (List ℕ)) (page : ℕ) (setup : Viewing) : Type 0 where
-  pub name : List ℕ
+  pub page_name : List ℕ
   pub size : List ℕ
   pub rate : List ℕ
-  pub words_are : words ≡ codes "check" ∷ name ∷ size ∷ rate ∷ []
+  pub words_are : words ≡ codes "check" ∷ page_name ∷ size ∷ rate ∷ []
   pub page_is : page ≡ 1
   pub setup_is : SpellsSetup size rate setup
 

@@ -62,9 +62,9 @@ mod tests {
     #[test]
     fn reads_a_check(rt: HostRuntime) -> Result<(), Fail> {
         let words = words_of(rt.alloc(), "check p 1024x768 60")?;
-        let read = match command(&words) {
+        let read = match &command(&words) {
             Ok(Command::Check { page, setup }) => (
-                page,
+                *page,
                 setup.width(),
                 setup.height(),
                 setup.rate(),
