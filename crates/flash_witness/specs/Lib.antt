@@ -1,0 +1,3 @@
+pub mod TintText
+pub mod PartValue
+pub mod WitnessText
