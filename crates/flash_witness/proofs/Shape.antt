@@ -1,5 +1,5 @@
--- The value of a witness has no float and nests three deep, so that its text is exact and is read back.
-use Rattle.std.proofs.Common.{◌≡◌, ℕ, ◌≤◌, max, pos, negsuc, ℤ, List, [], ◌∷◌, Bool, false, map, refl, arith}
+-- The value of a witness has no float, and nests so little that its text is read back.
+use Rattle.std.proofs.Common.{◌≡◌, ℕ, ◌≤◌, pos, negsuc, ℤ, List, [], ◌∷◌, false, map, refl, arith}
 use Rattle.serde_json.specs.Data.{Data, depth, items_depth}
 use Rattle.serde_json.specs.Find.{is_float, of_integer}
 use Rattle.serde_json.specs.Read.{max_depth}

@@ -13,6 +13,8 @@
 #![tactic(auto)]
 
 mod part;
+#[cfg(test)]
+mod tests;
 mod text;
 mod tint;
 

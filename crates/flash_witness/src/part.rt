@@ -12,11 +12,11 @@ use std::alloc::{AllocError, Global};
 
 /// The object of a part.
 #[tactic(auto, unfolding(crate::specs::PartValue::part_value))]
-pub fn of_part(alloc: Global, part: &Part) -> Result<Value, AllocError>
+pub fn part_object(alloc: Global, part: &Part) -> Result<Value, AllocError>
     ensures { IfOk result (λ v. view v ≡ part_value part.now) }
 {
-    let frames = of_frames(alloc, &part.frames)?;
-    let tints = of_tints(alloc, &part.tints)?;
+    let frames = frame_array(alloc, &part.frames)?;
+    let tints = tint_array(alloc, &part.tints)?;
     json!(in alloc; {
         "frames": frames,
         "height": part.height,
@@ -39,7 +39,7 @@ fn kind_word(kind: Kind) -> &'static str
 }
 
 /// The array of the frames, as numbers.
-fn of_frames(alloc: Global, frames: &[u32]) -> Result<Value, AllocError>
+fn frame_array(alloc: Global, frames: &[u32]) -> Result<Value, AllocError>
     ensures { IfOk result (λ v. view v ≡ array (items_of (map natural frames.now))) }
 {
     let mut items = Vec::new(alloc);
@@ -50,7 +50,7 @@ fn of_frames(alloc: Global, frames: &[u32]) -> Result<Value, AllocError>
 }
 
 /// The array of the tints, as strings.
-fn of_tints(alloc: Global, tints: &[Tint]) -> Result<Value, AllocError>
+fn tint_array(alloc: Global, tints: &[Tint]) -> Result<Value, AllocError>
     ensures { IfOk result (λ v. view v ≡ array (items_of (map tint_value tints.now))) }
 {
     let mut items = Vec::new(alloc);

@@ -1,4 +1,4 @@
-// The JSON value and the text of a witness.
+// The text of a witness, by way of its JSON value.
 ghost use Rattle.std.specs.Prelude.{◌≡◌, map, Some, IfOk, IsUtf8};
 ghost use Rattle.serde_json.specs.Data.{array};
 ghost use Rattle.serde_json.specs.Read.{read};
@@ -6,15 +6,16 @@ ghost use Rattle.serde_json.specs.View.{view, items_of};
 ghost use Rattle.flash_witness.specs.PartValue.{part_value};
 ghost use Rattle.flash_witness.specs.WitnessText.{witness_value, witness_text};
 
-use crate::part::of_part;
+use crate::part::part_object;
 use page_model::{NoMemory, Part, Witness};
 use serde_json::{Value, json};
 use std::alloc::{AllocError, Global};
 
-/// The version of the format, which each text names.
+/// The version of the format, which each text tells.
 const VERSION: u64 = 1;
 
-/// The text of a witness: one JSON object without white space and without a newline at its end.
+/// The text of a witness: one JSON object with no white space, and no newline at its end. The one
+/// error is want of memory.
 #[tactic(auto, using(crate::proofs::Shape::witness_whole, crate::proofs::Shape::witness_within), unfolding(crate::specs::WitnessText::witness_text))]
 pub fn to_text(alloc: Global, witness: &Witness) -> Result<Vec<u8>, NoMemory>
     ensures text { IfOk result (λ text. text.items ≡ witness_text witness.now) }
@@ -22,16 +23,16 @@ pub fn to_text(alloc: Global, witness: &Witness) -> Result<Vec<u8>, NoMemory>
         (λ text. read text.items ≡ Some (witness_value witness.now)) }
     ensures utf8 { IfOk result (λ text. IsUtf8 text.items) }
 {
-    let value = of_witness(alloc, witness)?;
+    let value = witness_object(alloc, witness)?;
     Ok(value.to_vec(alloc)?)
 }
 
 /// The object of a witness.
 #[tactic(auto, unfolding(crate::specs::WitnessText::witness_value))]
-fn of_witness(alloc: Global, witness: &Witness) -> Result<Value, AllocError>
+fn witness_object(alloc: Global, witness: &Witness) -> Result<Value, AllocError>
     ensures { IfOk result (λ v. view v ≡ witness_value witness.now) }
 {
-    let parts = of_parts(alloc, witness.parts.as_slice())?;
+    let parts = part_array(alloc, witness.parts.as_slice())?;
     json!(in alloc; {
         "area": witness.area,
         "height": witness.height,
@@ -47,12 +48,12 @@ fn of_witness(alloc: Global, witness: &Witness) -> Result<Value, AllocError>
 }
 
 /// The array of the parts.
-fn of_parts(alloc: Global, parts: &[Part]) -> Result<Value, AllocError>
+fn part_array(alloc: Global, parts: &[Part]) -> Result<Value, AllocError>
     ensures { IfOk result (λ v. view v ≡ array (items_of (map part_value parts.now))) }
 {
     let mut items = Vec::new(alloc);
     for part in parts {
-        items.push(of_part(alloc, part)?)?;
+        items.push(part_object(alloc, part)?)?;
     }
     Ok(Value::Array(items))
 }

@@ -1,5 +1,5 @@
 -- What the three holes write are the channels' texts.
-use Rattle.std.proofs.Common.{◌<◌, arith, rules}
+use Rattle.std.proofs.Common.{rules}
 use Rattle.flash_witness.proofs.Hex.{padded_channel}
 use Rattle.flash_witness.proofs.tint.HexDisplay.fmt.Goals as goal
 

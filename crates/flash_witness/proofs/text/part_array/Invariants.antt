@@ -2,7 +2,7 @@
 use Rattle.std.proofs.Common.{◌≡◌, map, take}
 use Rattle.serde_json.specs.View.{view}
 use Rattle.flash_witness.specs.PartValue.{part_value}
-use Rattle.flash_witness.proofs.text.of_parts.Given as goal
+use Rattle.flash_witness.proofs.text.part_array.Given as goal
 
 abbrev pub invariant-loop-part : goal.invariant-loop-part
 invariant-loop-part l = map view l.items.items ≡ map part_value (take l.part-index l.parts)

@@ -1,0 +1,116 @@
+// Texts to the byte, as another JSON writer gives them for the same witnesses.
+use super::to_text;
+use page_model::{Kind, List, Part, Rgb, Tint, Witness};
+use std::test::Fail;
+
+fn single(r: u8, g: u8, b: u8) -> Tint {
+    between(Rgb { r, g, b }, Rgb { r, g, b })
+}
+
+fn between(lo: Rgb, hi: Rgb) -> Tint {
+    Tint { lo, hi }
+}
+
+fn alternating(a: Tint, b: Tint) -> [Tint; 9] {
+    [a, b, a, b, a, b, a, b, a]
+}
+
+#[test]
+fn black_white_lamp(rt: HostRuntime) -> Result<(), Fail> {
+    let alloc = rt.alloc();
+    let part = Part {
+        x: 0,
+        y: 0,
+        width: 341,
+        height: 256,
+        kind: Kind::General,
+        frames: [0, 8, 15, 23, 30, 38, 45, 53, 60],
+        tints: alternating(single(0, 0, 0), single(255, 255, 255)),
+    };
+    let witness = Witness {
+        width: 1024,
+        height: 768,
+        rate: 60,
+        start: 0,
+        x: 0,
+        y: 0,
+        area: 87296,
+        parts: List::from_vec(vec![in alloc; part]?),
+    };
+    let text = to_text(alloc, &witness)?;
+    let want =
+        br#"{"area":87296,"height":768,"parts":[{"frames":[0,8,15,23,30,38,45,53,60],"height":256,"kind":"general","tints":["000000","ffffff","000000","ffffff","000000","ffffff","000000","ffffff","000000"],"width":341,"x":0,"y":0}],"rate":60,"start":0,"verdict":"fail","version":1,"width":1024,"x":0,"y":0}"#;
+    assert_eq!(rt; text.as_slice(), want.as_slice());
+    Ok(())
+}
+
+// Two parts, a red kind, tints of two colours, and a rectangle that begins outside the viewport.
+#[test]
+fn red_and_loose_parts(rt: HostRuntime) -> Result<(), Fail> {
+    let alloc = rt.alloc();
+    let red = Part {
+        x: 0,
+        y: 0,
+        width: 171,
+        height: 100,
+        kind: Kind::Red,
+        frames: [0, 9, 10, 99, 100, 999, 1000, 65535, 4294967295],
+        tints: alternating(single(0xff, 0, 0), single(0x0a, 0x1b, 0x2c)),
+    };
+    let grey = between(
+        Rgb {
+            r: 0xe3,
+            g: 0xe3,
+            b: 0xe3,
+        },
+        Rgb {
+            r: 0xe4,
+            g: 0xe4,
+            b: 0xe4,
+        },
+    );
+    let loose = Part {
+        x: 4095,
+        y: 65535,
+        width: 1,
+        height: 49,
+        kind: Kind::General,
+        frames: [1, 2, 3, 4, 5, 6, 7, 8, 9],
+        tints: alternating(grey, single(0xf0, 0xf1, 0xf2)),
+    };
+    let witness = Witness {
+        width: 400,
+        height: 300,
+        rate: 240,
+        start: 4294967295,
+        x: -170,
+        y: -1,
+        area: 22000,
+        parts: List::from_vec(vec![in alloc; red, loose]?),
+    };
+    let text = to_text(alloc, &witness)?;
+    let want =
+        br#"{"area":22000,"height":300,"parts":[{"frames":[0,9,10,99,100,999,1000,65535,4294967295],"height":100,"kind":"red","tints":["ff0000","0a1b2c","ff0000","0a1b2c","ff0000","0a1b2c","ff0000","0a1b2c","ff0000"],"width":171,"x":0,"y":0},{"frames":[1,2,3,4,5,6,7,8,9],"height":49,"kind":"general","tints":["e3e3e3-e4e4e4","f0f1f2","e3e3e3-e4e4e4","f0f1f2","e3e3e3-e4e4e4","f0f1f2","e3e3e3-e4e4e4","f0f1f2","e3e3e3-e4e4e4"],"width":1,"x":4095,"y":65535}],"rate":240,"start":4294967295,"verdict":"fail","version":1,"width":400,"x":-170,"y":-1}"#;
+    assert_eq!(rt; text.as_slice(), want.as_slice());
+    Ok(())
+}
+
+#[test]
+fn no_part(rt: HostRuntime) -> Result<(), Fail> {
+    let alloc = rt.alloc();
+    let witness = Witness {
+        width: 1,
+        height: 4096,
+        rate: 1,
+        start: 0,
+        x: 2147483647,
+        y: -2147483648,
+        area: 0,
+        parts: List::new(alloc),
+    };
+    let text = to_text(alloc, &witness)?;
+    let want =
+        br#"{"area":0,"height":4096,"parts":[],"rate":1,"start":0,"verdict":"fail","version":1,"width":1,"x":2147483647,"y":-2147483648}"#;
+    assert_eq!(rt; text.as_slice(), want.as_slice());
+    Ok(())
+}
