@@ -1,8 +1,7 @@
 // The JSON value of a part.
-ghost use Rattle.std.specs.Prelude.{◌≡◌, map, codes, IfOk};
-ghost use Rattle.serde_json.specs.Data.{string, array};
+ghost use Rattle.std.specs.Prelude.{◌≡◌, map, IfOk};
+ghost use Rattle.serde_json.specs.Data.{array};
 ghost use Rattle.serde_json.specs.View.{view, items_of};
-ghost use Rattle.flash_witness.specs.TintText.{tint_text};
 ghost use Rattle.flash_witness.specs.PartValue.{natural, tint_value, kind_text, part_value};
 
 use crate::tint::spelling;

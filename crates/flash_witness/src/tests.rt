@@ -3,30 +3,92 @@ use super::to_text;
 use page_model::{Kind, List, Part, Rgb, Tint, Witness};
 use std::test::Fail;
 
-fn single(r: u8, g: u8, b: u8) -> Tint {
-    between(Rgb { r, g, b }, Rgb { r, g, b })
-}
+const BLACK: Rgb = Rgb { r: 0, g: 0, b: 0 };
 
-fn between(lo: Rgb, hi: Rgb) -> Tint {
-    Tint { lo, hi }
+const WHITE: Rgb = Rgb {
+    r: 0xff,
+    g: 0xff,
+    b: 0xff,
+};
+
+const RED: Rgb = Rgb {
+    r: 0xff,
+    g: 0,
+    b: 0,
+};
+
+const DARK: Rgb = Rgb {
+    r: 0x0a,
+    g: 0x1b,
+    b: 0x2c,
+};
+
+const GREY: Rgb = Rgb {
+    r: 0xe3,
+    g: 0xe3,
+    b: 0xe3,
+};
+
+const NEXT_GREY: Rgb = Rgb {
+    r: 0xe4,
+    g: 0xe4,
+    b: 0xe4,
+};
+
+fn single(colour: Rgb) -> Tint {
+    Tint {
+        lo: colour,
+        hi: colour,
+    }
 }
 
 fn alternating(a: Tint, b: Tint) -> [Tint; 9] {
     [a, b, a, b, a, b, a, b, a]
 }
 
-#[test]
-fn black_white_lamp(rt: HostRuntime) -> Result<(), Fail> {
-    let alloc = rt.alloc();
-    let part = Part {
+fn black_and_white() -> Part {
+    Part {
         x: 0,
         y: 0,
         width: 341,
         height: 256,
         kind: Kind::General,
         frames: [0, 8, 15, 23, 30, 38, 45, 53, 60],
-        tints: alternating(single(0, 0, 0), single(255, 255, 255)),
+        tints: alternating(single(BLACK), single(WHITE)),
+    }
+}
+
+fn red_and_dark() -> Part {
+    Part {
+        x: 0,
+        y: 0,
+        width: 171,
+        height: 100,
+        kind: Kind::Red,
+        frames: [0, 9, 10, 99, 100, 999, 1000, 65535, 4294967295],
+        tints: alternating(single(RED), single(DARK)),
+    }
+}
+
+fn two_greys() -> Part {
+    let loose = Tint {
+        lo: GREY,
+        hi: NEXT_GREY,
     };
+    Part {
+        x: 4095,
+        y: 65535,
+        width: 1,
+        height: 49,
+        kind: Kind::General,
+        frames: [1, 2, 3, 4, 5, 6, 7, 8, 9],
+        tints: alternating(loose, single(WHITE)),
+    }
+}
+
+#[test]
+fn black_white_lamp(rt: HostRuntime) -> Result<(), Fail> {
+    let alloc = rt.alloc();
     let witness = Witness {
         width: 1024,
         height: 768,
@@ -35,7 +97,7 @@ fn black_white_lamp(rt: HostRuntime) -> Result<(), Fail> {
         x: 0,
         y: 0,
         area: 87296,
-        parts: List::from_vec(vec![in alloc; part]?),
+        parts: List::from_vec(vec![in alloc; black_and_white()]?),
     };
     let text = to_text(alloc, &witness)?;
     let want =
@@ -44,40 +106,10 @@ fn black_white_lamp(rt: HostRuntime) -> Result<(), Fail> {
     Ok(())
 }
 
-// Two parts, a red kind, tints of two colours, and a rectangle that begins outside the viewport.
+// Two parts, a red kind, a tint of two colours, and a rectangle that begins outside the viewport.
 #[test]
 fn red_and_loose_parts(rt: HostRuntime) -> Result<(), Fail> {
     let alloc = rt.alloc();
-    let red = Part {
-        x: 0,
-        y: 0,
-        width: 171,
-        height: 100,
-        kind: Kind::Red,
-        frames: [0, 9, 10, 99, 100, 999, 1000, 65535, 4294967295],
-        tints: alternating(single(0xff, 0, 0), single(0x0a, 0x1b, 0x2c)),
-    };
-    let grey = between(
-        Rgb {
-            r: 0xe3,
-            g: 0xe3,
-            b: 0xe3,
-        },
-        Rgb {
-            r: 0xe4,
-            g: 0xe4,
-            b: 0xe4,
-        },
-    );
-    let loose = Part {
-        x: 4095,
-        y: 65535,
-        width: 1,
-        height: 49,
-        kind: Kind::General,
-        frames: [1, 2, 3, 4, 5, 6, 7, 8, 9],
-        tints: alternating(grey, single(0xf0, 0xf1, 0xf2)),
-    };
     let witness = Witness {
         width: 400,
         height: 300,
@@ -86,11 +118,11 @@ fn red_and_loose_parts(rt: HostRuntime) -> Result<(), Fail> {
         x: -170,
         y: -1,
         area: 22000,
-        parts: List::from_vec(vec![in alloc; red, loose]?),
+        parts: List::from_vec(vec![in alloc; red_and_dark(), two_greys()]?),
     };
     let text = to_text(alloc, &witness)?;
     let want =
-        br#"{"area":22000,"height":300,"parts":[{"frames":[0,9,10,99,100,999,1000,65535,4294967295],"height":100,"kind":"red","tints":["ff0000","0a1b2c","ff0000","0a1b2c","ff0000","0a1b2c","ff0000","0a1b2c","ff0000"],"width":171,"x":0,"y":0},{"frames":[1,2,3,4,5,6,7,8,9],"height":49,"kind":"general","tints":["e3e3e3-e4e4e4","f0f1f2","e3e3e3-e4e4e4","f0f1f2","e3e3e3-e4e4e4","f0f1f2","e3e3e3-e4e4e4","f0f1f2","e3e3e3-e4e4e4"],"width":1,"x":4095,"y":65535}],"rate":240,"start":4294967295,"verdict":"fail","version":1,"width":400,"x":-170,"y":-1}"#;
+        br#"{"area":22000,"height":300,"parts":[{"frames":[0,9,10,99,100,999,1000,65535,4294967295],"height":100,"kind":"red","tints":["ff0000","0a1b2c","ff0000","0a1b2c","ff0000","0a1b2c","ff0000","0a1b2c","ff0000"],"width":171,"x":0,"y":0},{"frames":[1,2,3,4,5,6,7,8,9],"height":49,"kind":"general","tints":["e3e3e3-e4e4e4","ffffff","e3e3e3-e4e4e4","ffffff","e3e3e3-e4e4e4","ffffff","e3e3e3-e4e4e4","ffffff","e3e3e3-e4e4e4"],"width":1,"x":4095,"y":65535}],"rate":240,"start":4294967295,"verdict":"fail","version":1,"width":400,"x":-170,"y":-1}"#;
     assert_eq!(rt; text.as_slice(), want.as_slice());
     Ok(())
 }
