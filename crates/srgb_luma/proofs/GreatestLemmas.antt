@@ -1,7 +1,7 @@
 -- The greatest number that passes a test: how to show that a number is it, and how it grows with the test.
 use Rattle.std.proofs.Common.{◌≡◌, ℕ, zero, suc, ◌<◌, ◌≤◌, Bool, true, false, arith, inl, inr}
 use Rattle.std.proofs.lemmas.Bool.{cases_Bool, cases_eq, false_from_ne_true}
-use Rattle.page_model.specs.Light.{greatest_up_to}
+use Rattle.page_model.specs.Least.{greatest_up_to}
 
 -- with a number each smaller one passes
 abbrev pub IsAntitone : (ℕ → Bool) → Type 0

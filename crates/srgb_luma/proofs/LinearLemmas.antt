@@ -1,7 +1,8 @@
 -- The linear light of a channel: how to show its value, and that it is at most 2^32.
 use Rattle.std.proofs.Common.{◌≡◌, ℕ, suc, ◌*◌, ◌/◌, ◌^◌, ◌<◌, ◌≤◌, true, false, arith, inl, inr}
 use Rattle.std.proofs.lemmas.Bool.{cases_lt, le-leb, lt-leb}
-use Rattle.page_model.specs.Light.{greatest_up_to, is_below_curve, linear_of}
+use Rattle.page_model.specs.Least.{greatest_up_to}
+use Rattle.page_model.specs.Light.{is_below_curve, linear_of}
 use Rattle.srgb_luma.proofs.GreatestLemmas.{greatest_up_to_le, greatest_up_to-edge}
 use Rattle.srgb_luma.proofs.CurveLemmas.{is_below_curve-antitone}
 
