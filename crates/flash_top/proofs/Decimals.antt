@@ -1,6 +1,5 @@
 -- Lemmas on the digits of a number, and on what `parse` and `split_once` give of them.
 use Rattle.std.proofs.Common.{◌≡◌, ◌≢◌, ℕ, suc, zero, ◌<◌, ◌^◌, List, ◌∷◌, ◌++◌, Result, Ok, Err, Option, Some, IfSome, MatchOption, Bor, decimal, length, get_or, arith, sym, ◌∙◌, ap}
-use Rattle.std.specs.Int.{IsInRange}
 use Rattle.std.specs.Result.{result_ok}
 use Rattle.std.specs.Str.Parse.{AllDigits, digits_value, ParsesUnsigned}
 use Rattle.std.proofs.lemmas.Str.Parse.{IsNumeralModel, numerals_by_value, tells_digits, not_in_digits, parse_plain}

@@ -1,7 +1,7 @@
 // Numbers and sizes as a command line writes them.
 ghost use Rattle.std.specs.Prelude.{◌≡◌, ℕ, ◌<◌, ◌^◌, ◌∷◌, ◌++◌, IfSome, decimal};
 
-/// The number that a text writes: decimal digits without sign, and with no leading zero but in `0` itself.
+/// The number below 2^32 that a text writes: decimal digits without sign, and with no leading zero but in `0` itself.
 pub fn number(text: &str) -> Option<u32>
     ensures written { IfSome result (λ n. text.now ≡ decimal n) }
     ensures read { (n : ℕ) → n < 2 ^ 32 → text.now ≡ decimal n → result ≡ Some n }
@@ -16,7 +16,7 @@ pub fn number(text: &str) -> Option<u32>
     text.parse::<u32>().ok()
 }
 
-/// The same for the numbers below 65,536.
+/// The number that a text writes, as `number` reads it, where it is below 65,536.
 pub fn small_number(text: &str) -> Option<u16>
     ensures written { IfSome result (λ n. text.now ≡ decimal n) }
     ensures read { (n : ℕ) → n < 2 ^ 16 → text.now ≡ decimal n → result ≡ Some n }

@@ -1,4 +1,4 @@
-use Rattle.std.proofs.Common.{◌≡◌, ℕ, ◌<◌, ◌^◌, ◌≤◌, IfSome, decimal, length, get_or, arith, ◌∙◌, ap}
+use Rattle.std.proofs.Common.{◌≡◌, decimal, length, get_or, arith, ◌∙◌, ap}
 use Rattle.flash_top.proofs.Decimals.{has_no_plus, has_no_leading_zero, parsed-written, parsed-read}
 use Rattle.std.proofs.lemmas.Fmt.{decimal_nonempty}
 use Rattle.flash_top.proofs.numerals.number.Goals as goal

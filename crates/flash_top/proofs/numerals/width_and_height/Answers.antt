@@ -1,4 +1,4 @@
-use Rattle.std.proofs.Common.{◌≡◌, ℕ, ◌<◌, ◌^◌, ◌∷◌, ◌++◌, Some, None, decimal, arith}
+use Rattle.std.proofs.Common.{Some, None}
 use Rattle.flash_top.proofs.Decimals.{split-size}
 use Rattle.flash_top.proofs.numerals.width_and_height.Goals as goal
 

@@ -1,4 +1,4 @@
-use Rattle.std.proofs.Common.{◌≡◌, ℕ, List, [], ◌∷◌, map, length, get_or, codes, rules}
+use Rattle.std.proofs.Common.{◌≡◌, codes, rules}
 use Rattle.std.specs.Prelude.{string_bytes}
 use Rattle.flash_top.proofs.CheckWords.{map-four, spells_check, check_spelled}
 use Rattle.flash_top.proofs.reading.check.Goals as goal
