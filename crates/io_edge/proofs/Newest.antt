@@ -1,5 +1,5 @@
 -- The newest file of a name, as far as the files were looked through.
-use Rattle.std.proofs.Common.{◌≡◌, ℕ, zero, suc, ◌+◌, ◌<◌, ◌≤◌, Bool, true, false, cond, List, [], ◌∷◌, ◌++◌, length, get_or, Option, None, Some, IfSome, take, refl, sym, ap, ◌∙◌, subst, nat_eq, nat_cmp, drop, length-append, arith}
+use Rattle.std.proofs.Common.{◌≡◌, ℕ, zero, suc, ◌+◌, ◌<◌, ◌≤◌, true, false, cond, List, [], ◌∷◌, ◌++◌, length, get_or, Option, None, Some, take, refl, sym, ap, ◌∙◌, nat_eq, drop, length-append, arith}
 use Rattle.std.specs.List.{slice_get}
 use Rattle.std.specs.Cmp.Lexicographic.{pointwise, texts_ties}
 use Rattle.std.specs.Option.{option_map, unwrap_or}
@@ -10,7 +10,6 @@ use Rattle.std.proofs.lemmas.Option.{slice_get_read}
 use Rattle.std.specs.FinMap as map
 use Rattle.io_edge.specs.declared.shelf.File.{File}
 use Rattle.io_edge.specs.declared.shelf.Place.{Place}
-use Rattle.io_edge.specs.Files.{Files}
 use Rattle.io_edge.specs.Shelf.{files_of, bytes_at, rest_of, IsPlaceIn, IsNewest}
 
 -- the newest among the first n files

@@ -1,10 +1,10 @@
 -- What was taken of a file so far.
-use Rattle.std.proofs.Common.{◌≡◌, ℕ, ◌+◌, ◌<◌, List, [], ◌++◌, Option, None, Some, IfSome, length, drop, sym, subst, refl, ap, ◌∙◌, append-nil, length-append, arith}
+use Rattle.std.proofs.Common.{◌≡◌, ℕ, ◌+◌, ◌≤◌, List, [], ◌++◌, Option, None, Some, IfSome, length, drop, sym, subst, refl, ap, ◌∙◌, append-nil, length-append, arith}
 use Rattle.std.proofs.Math.Seq.{drop-append_seam}
 use Rattle.std.specs.Io.KnownBytes.{Consumes, IsAtEnd}
 use Rattle.std.proofs.KnownBytes.{Consumes-trans}
 use Rattle.io_edge.specs.Files.{Files, bytes_of, Opens}
-use Rattle.io_edge.specs.Reading.{IsFile, IsLonger, IsBehind}
+use Rattle.io_edge.specs.Reading.{IsFile, IsLonger, IsBehind, IsBehindSome}
 
 -- where the files are told, these bytes and then the rest are that name's
 abbrev pub HasTaken : Option Files → List ℕ → Option (List ℕ) → List ℕ → Type 0
@@ -36,4 +36,7 @@ taken_behind (Some files) name None bytes count h e = absurd h
 taken_behind (Some files) name (Some rest) bytes count h e =
     ap Some (sym (ap (drop count) h ∙ subst (λ n. drop n (bytes ++ rest) ≡ rest) e (drop-append_seam bytes rest)))
 
-pub ruleset taken = (taken_none, taken_more, taken_all, taken_longer, taken_behind)
+pub taken_some : (files : Option Files) (name : List ℕ) (old rest : Option (List ℕ)) (bytes more : List ℕ) (most : ℕ) → HasTaken files name old bytes → Consumes old rest more → length bytes + length more ≤ most → IsBehindSome files name most rest
+taken_some files name old rest bytes more most h c e = (length (bytes ++ more), simp length-append e, taken_behind files name rest (bytes ++ more) (length (bytes ++ more)) (taken_more files name old rest bytes more h c) refl)
+
+pub ruleset taken = (taken_none, taken_more, taken_all, taken_longer, taken_behind, taken_some)

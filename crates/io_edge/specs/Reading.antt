@@ -1,5 +1,5 @@
 -- What a read moves from the rest of a file, and what the whole of a file is.
-use Rattle.std.specs.Prelude.{◌≡◌, ◌+◌, ◌<◌, ℕ, List, length, drop, Option, Some, IfSome}
+use Rattle.std.specs.Prelude.{◌≡◌, ◌<◌, ◌≤◌, ℕ, List, length, drop, Option, Some, IfSome}
 use Rattle.std.specs.Io.KnownBytes.{Consumes, IsAtEnd}
 use Rattle.io_edge.specs.Files.{Files, bytes_of}
 
@@ -15,6 +15,10 @@ IsFile files name bytes = IfSome files (λ files. bytes ≡ bytes_of files name)
 abbrev pub IsLonger : Option Files → List ℕ → ℕ → Type 0
 IsLonger files name limit = IfSome files (λ files. limit < length (bytes_of files name))
 
--- where the files are told, the rest is that name's bytes behind the first count of them
+-- where the files are told, the rest is that name's bytes behind so many of them
 abbrev pub IsBehind : Option Files → List ℕ → ℕ → Option (List ℕ) → Type 0
 IsBehind files name count rest = IfSome files (λ files. rest ≡ Some (drop count (bytes_of files name)))
+
+-- where the files are told, the rest is that name's bytes behind some of them, at most so many
+abbrev pub IsBehindSome : Option Files → List ℕ → ℕ → Option (List ℕ) → Type 0
+IsBehindSome files name most rest = (count : ℕ) × (count ≤ most) × IsBehind files name count rest

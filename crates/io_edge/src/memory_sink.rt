@@ -30,11 +30,11 @@ impl Model for MemorySink {
     ghost coded = { sink_code };
 
     ghost view = { λ s. record {
-        bytes = s.bytes.items;
-        room = s.room;
-        failing = s.failing.items;
-        calls = s.calls;
-        faults = s.faults
+      bytes = s.bytes.items;
+      room = s.room;
+      failing = s.failing.items;
+      calls = s.calls;
+      faults = s.faults;
     } };
 
     ghost invariant = { λ s. s.room ≤ vec_capacity s.bytes };

@@ -3,7 +3,7 @@ ghost use Rattle.std.specs.Prelude.{◌≡◌, ◌+◌, ◌≤◌, length, IfOk,
 ghost use Rattle.std.specs.Io.KnownBytes.{IsAtEnd};
 ghost use Rattle.io_edge.specs.Faults.{Rose};
 ghost use Rattle.io_edge.specs.Files.{SameNames};
-ghost use Rattle.io_edge.specs.Reading.{IsFile, IsLonger, IsBehind};
+ghost use Rattle.io_edge.specs.Reading.{IsFile, IsLonger, IsBehind, IsBehindSome};
 
 use crate::fault::SourceFault;
 use crate::source::Source;
@@ -62,7 +62,7 @@ impl From<AllocError> for ReadAllFault {
 /// Opens a name and reads to the end of the file, or until one byte more than the limit came. Each
 /// read is offered the smaller of 4,096 bytes and what is missing from that.
 ///
-/// After `ReadFault` and `NoMemory` nothing is said of the rest of the file.
+/// After `ReadFault` nothing is said of the rest of the file.
 #[tactic(auto, using(crate::proofs::Taken::taken))]
 pub fn read_all<S: Source>(
     alloc: Global,
@@ -71,15 +71,23 @@ pub fn read_all<S: Source>(
     limit: u32,
 ) -> Result<Vec<u8>, ReadAllFault>
     requires { S.may_open source.old name.now }
+
+    // The whole file, where it isn't longer than the limit.
     ensures bytes { IfOk result (λ bytes. IsFile (S.files source.old) name.now bytes.items) }
     ensures limit { IfOk result (λ bytes. length bytes.items ≤ limit) }
     ensures end { OnOk result (IsAtEnd (S.rest source.new)) }
+
+    // Else one byte more than the limit was taken.
     ensures longer { IsErrOf result ReadAllFault.TooLong →
         IsLonger (S.files source.old) name.now limit }
     ensures behind { IsErrOf result ReadAllFault.TooLong →
         IsBehind (S.files source.old) name.now (limit + 1) (S.rest source.new) }
+
+    ensures no_memory { IsErrOf result ReadAllFault.NoMemory →
+        IsBehindSome (S.files source.old) name.now (limit + 1) (S.rest source.new) }
     ensures fault { IsErrOf result ReadAllFault.ReadFault →
         Rose (S.faults source.old) (S.faults source.new) }
+
     ensures later { S.faults source.old ≤ S.faults source.new }
     ensures files { S.files source.new ≡ S.files source.old }
     ensures names { SameNames (S.may_open source.old) (S.may_open source.new) }

@@ -1,4 +1,4 @@
-use Rattle.std.proofs.Common.{◌≡◌, arith}
+use Rattle.std.proofs.Common.{arith}
 use Rattle.io_edge.proofs.Newest.{newest_none, newest_more, newest_kept}
 use Rattle.io_edge.proofs.shelf.newest.Goals as goal
 use Rattle.io_edge.proofs.shelf.newest.Goals.{then-eq, else-eq}
