@@ -1,1 +1,4 @@
+pub mod Outcomes
+pub mod Telling
+pub mod Texts
 pub mod Words

@@ -1,4 +1,13 @@
-//! The words that all of flash speaks: its types, and the definitions that contracts cite.
+//! The words that all of flash speaks: the types of pages, scenes and witnesses, and in `specs/` the
+//! definitions that contracts cite. Every crate stands on it, and it stands on none.
+//!
+//! What a user must believe is the definitions: time, progress, keyframes, curves, slots and layers; colours,
+//! light and red; flashes, bad windows and safety; loose tints and what is sure or possible of them; how many
+//! frames are needed; and what makes a witness. They are written to be read beside the standards, each module
+//! says from which, and none of them is a loop of the code.
+//!
+//! Its own calls are few: a [`List`] is a list in contracts, and a [`Setup`] is always within its ranges. That
+//! a scene is valid is a definition here and a promise of those who make scenes.
 #![tactic(auto)]
 
 mod animation;

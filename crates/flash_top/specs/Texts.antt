@@ -1,0 +1,48 @@
+-- What is written for each outcome, and the status that the run ends with.
+use Rattle.std.specs.Prelude.{ℕ, ◌≡◌, ◌⊎◌, List, [], ◌∷◌, ◌++◌, codes, decimal}
+use Rattle.flash_top.specs.declared.outcome.Outcome.{Outcome}
+use Rattle.flash_top.specs.declared.outcome.Outcome.TheVariants.{WordsRefused, ReadFault, TooLong, NotYet, Pass, Fail, TooManyFrames, NoMemory}
+use Rattle.flash_top.specs.declared.status.Status.{Status}
+use Rattle.flash_top.specs.declared.status.Status.TheVariants as status
+use Rattle.flash_witness.specs.WitnessText.{witness_text}
+
+-- the line for an outcome, without its end
+abbrev pub line_of : Outcome → List ℕ
+line_of WordsRefused = codes "words: not understood"
+line_of ReadFault = codes "cannot read"
+line_of TooLong = codes "page: too long"
+line_of NotYet = codes "page: not yet"
+line_of (Pass frames) = codes "pass: frames " ++ decimal frames
+line_of (Fail witness) = witness_text witness
+line_of TooManyFrames = codes "undecided: more than 100000 frames"
+line_of NoMemory = codes "no memory"
+
+-- the text for an outcome: one line, ended by a line feed
+abbrev pub text_of : Outcome → List ℕ
+text_of outcome = line_of outcome ++ 10 ∷ []
+
+-- the status for an outcome
+abbrev pub status_of : Outcome → Status
+status_of WordsRefused = status.Words
+status_of ReadFault = status.ReadFault
+status_of TooLong = status.Page
+status_of NotYet = status.Page
+status_of (Pass frames) = status.Pass
+status_of (Fail witness) = status.Bad
+status_of TooManyFrames = status.Undecided
+status_of NoMemory = status.NoMemory
+
+-- an outcome has numbers or a witness to tell; the text of each other one is always the same
+abbrev pub HasOwnText : Outcome → Type 0
+HasOwnText WordsRefused = ⊥
+HasOwnText ReadFault = ⊥
+HasOwnText TooLong = ⊥
+HasOwnText NotYet = ⊥
+HasOwnText (Pass frames) = Unit {0}
+HasOwnText (Fail witness) = Unit {0}
+HasOwnText TooManyFrames = ⊥
+HasOwnText NoMemory = ⊥
+
+-- what is told for an outcome: itself, or that memory was refused for its text
+abbrev pub IsToldFor : Outcome → Outcome → Type 0
+IsToldFor outcome told = (told ≡ outcome) ⊎ (told ≡ NoMemory)

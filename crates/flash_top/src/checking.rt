@@ -1,0 +1,74 @@
+// From words to what they come to: the page is read, and judged.
+ghost use Rattle.std.specs.Prelude.{◌≡◌, ◌≤◌, length, map, string_bytes};
+ghost use Rattle.flash_top.specs.Words.{Spells};
+ghost use Rattle.flash_top.specs.Outcomes.{IsChecked, IsLampOutcome, IsOutcome, IsVerdict, MayOpenPage, page_limit};
+
+use crate::outcome::Outcome;
+use crate::reading::command;
+use crate::words::Command;
+use grey_lamp::{Lamp, LampVerdict, judge_lamp, lamp_of};
+use io_edge::{ReadAllFault, Source, read_all};
+use page_model::{NoMemory, Setup};
+use std::alloc::Global;
+
+/// The most bytes of a page.
+const PAGE_LIMIT: u32 = 1_048_576;
+
+/// What the words come to, where files are those of the source.
+pub(crate) fn outcome_of<S: Source>(alloc: Global, words: &[String], source: &mut S) -> Outcome
+    requires { MayOpenPage (map string_bytes words.now) (S.may_open source.old) }
+    ensures { IsOutcome (map string_bytes words.now) (S.files source.old) (S.faults source.old) (S.faults source.new) result }
+{
+    match command(words) {
+        Ok(command) => obeyed(alloc, words, &command, source),
+        Err(_) => Outcome::WordsRefused,
+    }
+}
+
+/// What the command comes to that the words spell.
+fn obeyed<S: Source>(alloc: Global, words: &[String], command: &Command, source: &mut S) -> Outcome
+    requires spelled { Spells (map string_bytes words.now) command.now }
+    requires may_open { MayOpenPage (map string_bytes words.now) (S.may_open source.old) }
+    ensures { IsOutcome (map string_bytes words.now) (S.files source.old) (S.faults source.old) (S.faults source.new) result }
+{
+    match command {
+        Command::Check { page, setup } => check(alloc, words[*page].as_str(), *setup, source),
+    }
+}
+
+/// What `check` of a page comes to.
+fn check<S: Source>(alloc: Global, name: &str, setup: Setup, source: &mut S) -> Outcome
+    requires { S.may_open source.old name.now }
+    ensures { IsChecked (S.files source.old) (S.faults source.old) (S.faults source.new) name.now setup result }
+{
+    match read_all(alloc, source, name, PAGE_LIMIT) {
+        Ok(bytes) => verdict_on(alloc, bytes.as_slice(), setup),
+        Err(ReadAllFault::ReadFault) => Outcome::ReadFault,
+        Err(ReadAllFault::TooLong) => Outcome::TooLong,
+        Err(ReadAllFault::NoMemory) => Outcome::NoMemory,
+    }
+}
+
+/// What the bytes of a page come to, of which there aren't too many.
+fn verdict_on(alloc: Global, bytes: &[u8], setup: Setup) -> Outcome
+    requires { length bytes.now ≤ page_limit }
+    ensures { IsVerdict setup bytes.now result }
+{
+    match lamp_of(alloc, bytes) {
+        Ok(Some(lamp)) => lamp_outcome(alloc, &lamp, setup),
+        Ok(None) => Outcome::NotYet,
+        Err(NoMemory) => Outcome::NoMemory,
+    }
+}
+
+/// What a lamp comes to.
+fn lamp_outcome(alloc: Global, lamp: &Lamp, setup: Setup) -> Outcome
+    ensures { IsLampOutcome setup lamp.now result }
+{
+    match judge_lamp(alloc, lamp, &setup) {
+        Ok(LampVerdict::Pass { frames }) => Outcome::Pass { frames },
+        Ok(LampVerdict::Fail(witness)) => Outcome::Fail(witness),
+        Ok(LampVerdict::Frames) => Outcome::TooManyFrames,
+        Err(NoMemory) => Outcome::NoMemory,
+    }
+}

@@ -1,0 +1,64 @@
+// The call that `main` makes.
+ghost use Rattle.std.specs.Prelude.{◌≡◌, map, string_bytes};
+ghost use Rattle.flash_top.specs.Outcomes.{IsOutcome, MayOpenPage};
+ghost use Rattle.flash_top.specs.Telling.{Tells};
+ghost use Rattle.flash_top.specs.Texts.{HasOwnText, IsToldFor, status_of, text_of};
+ghost use Rattle.flash_top.specs.declared.outcome.Outcome.{Outcome as Found};
+
+use crate::checking::outcome_of;
+use crate::outcome::Outcome;
+use crate::status::Status;
+use crate::telling::{fixed_text, own_text, status, tell};
+use io_edge::{Sink, Source};
+use page_model::NoMemory;
+use std::alloc::Global;
+
+/// Does what the words ask for: reads the page that they name from the source, judges it, writes one
+/// text to the sink, and tells how it went.
+///
+/// The clause is the whole promise of the program. There is an outcome whose cause holds, and what was
+/// written is its text and the status its status; or the sink counted a fault, and what was written is
+/// the beginning of that text. No file is opened but the page that the words name.
+pub fn run<S: Source, K: Sink>(
+    alloc: Global,
+    words: &[String],
+    source: &mut S,
+    sink: &mut K,
+) -> Status
+    requires { MayOpenPage (map string_bytes words.now) (S.may_open source.old) }
+    ensures { (outcome : Found)
+        × IsOutcome (map string_bytes words.now) (S.files source.old) (S.faults source.old) (S.faults source.new) outcome
+        × Tells (record {
+          old = K.contents sink.old;
+          new = K.contents sink.new;
+          faults_before = K.faults sink.old;
+          faults_after = K.faults sink.new;
+        })
+        (text_of outcome) (status_of outcome) result }
+{
+    let outcome = outcome_of(alloc, words, source);
+    match fixed_text(&outcome) {
+        Some(text) => tell(sink, text, status(&outcome)),
+        None => tell_own(alloc, &outcome, sink),
+    }
+}
+
+/// Writes the text of an outcome that has something of its own to tell; where memory is refused for it,
+/// that is what comes out.
+fn tell_own<K: Sink>(alloc: Global, outcome: &Outcome, sink: &mut K) -> Status
+    requires { HasOwnText outcome.now }
+    ensures { (told : Found)
+        × IsToldFor outcome.now told
+        × Tells (record {
+          old = K.contents sink.old;
+          new = K.contents sink.new;
+          faults_before = K.faults sink.old;
+          faults_after = K.faults sink.new;
+        })
+        (text_of told) (status_of told) result }
+{
+    match own_text(alloc, outcome) {
+        Ok(text) => tell(sink, text.as_slice(), status(outcome)),
+        Err(NoMemory) => tell(sink, b"no memory\n".as_slice(), Status::NoMemory),
+    }
+}

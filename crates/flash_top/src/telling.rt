@@ -1,0 +1,70 @@
+// The text and the status of an outcome, and how they are told.
+ghost use Rattle.std.specs.Prelude.{◌≡◌, IfOk, MatchOption};
+ghost use Rattle.flash_top.specs.Telling.{Tells};
+ghost use Rattle.flash_top.specs.Texts.{HasOwnText, line_of, status_of, text_of};
+
+use crate::outcome::Outcome;
+use crate::status::Status;
+use flash_witness::to_text;
+use io_edge::{Sink, write_all};
+use page_model::NoMemory;
+use std::alloc::Global;
+
+/// The status of an outcome.
+pub(crate) fn status(outcome: &Outcome) -> Status
+    ensures { result ≡ status_of outcome.now }
+{
+    match outcome {
+        Outcome::WordsRefused => Status::Words,
+        Outcome::ReadFault => Status::ReadFault,
+        Outcome::TooLong | Outcome::NotYet => Status::Page,
+        Outcome::Pass { .. } => Status::Pass,
+        Outcome::Fail(_) => Status::Bad,
+        Outcome::TooManyFrames => Status::Undecided,
+        Outcome::NoMemory => Status::NoMemory,
+    }
+}
+
+/// The text of an outcome whose words are always the same, which takes no memory.
+pub(crate) fn fixed_text(outcome: &Outcome) -> Option<&'static [u8]>
+    ensures { MatchOption result (HasOwnText outcome.now) (λ text. text.now ≡ text_of outcome.now) }
+{
+    match outcome {
+        Outcome::WordsRefused => Some(b"words: not understood\n".as_slice()),
+        Outcome::ReadFault => Some(b"cannot read\n".as_slice()),
+        Outcome::TooLong => Some(b"page: too long\n".as_slice()),
+        Outcome::NotYet => Some(b"page: not yet\n".as_slice()),
+        Outcome::Pass { .. } | Outcome::Fail(_) => None,
+        Outcome::TooManyFrames => Some(b"undecided: more than 100000 frames\n".as_slice()),
+        Outcome::NoMemory => Some(b"no memory\n".as_slice()),
+    }
+}
+
+/// The text of an outcome that has numbers or a witness to tell.
+pub(crate) fn own_text(alloc: Global, outcome: &Outcome) -> Result<Vec<u8>, NoMemory>
+    requires { HasOwnText outcome.now }
+    ensures { IfOk result (λ text. text.items ≡ text_of outcome.now) }
+{
+    let mut text = match outcome {
+        Outcome::Pass { frames } => format!(in alloc; "pass: frames {frames}")?.into_bytes(),
+        Outcome::Fail(witness) => to_text(alloc, witness)?,
+        _ => unreachable!(),
+    };
+    text.push(b'\n')?;
+    Ok(text)
+}
+
+/// Writes the text, and tells its own status, or a fault of the sink.
+pub(crate) fn tell<K: Sink>(sink: &mut K, text: &[u8], own: Status) -> Status
+    ensures { Tells (record {
+      old = K.contents sink.old;
+      new = K.contents sink.new;
+      faults_before = K.faults sink.old;
+      faults_after = K.faults sink.new;
+    }) text.now own result }
+{
+    match write_all(sink, text) {
+        Ok(()) => own,
+        Err(_) => Status::WriteFault,
+    }
+}

@@ -1,0 +1,10 @@
+pub mod Area
+pub mod ColourLemmas
+pub mod Greedy
+pub mod Safety
+pub mod NumeralLemmas
+pub mod PageLemmas
+pub mod SameLamp
+pub mod Seconds
+pub mod TurnLemmas
+pub mod WitnessLemmas

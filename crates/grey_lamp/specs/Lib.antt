@@ -1,0 +1,5 @@
+pub mod Chain
+pub mod Colour
+pub mod Course
+pub mod Page
+pub mod Verdict

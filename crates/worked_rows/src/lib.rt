@@ -1,0 +1,14 @@
+//! Worked rows: whole runs of flash, from words and bytes to text and status, with the values that they
+//! must have. They come from outside, by an independent reading of the definitions.
+//!
+//! Nothing stands on this crate, and it has no function but tests. A clause says what a run means; a row
+//! says that what was meant is what was written down, and that memory isn't refused where there is enough
+//! of it. Rows are tables, named by what they show.
+#![tactic(auto)]
+
+#[cfg(test)]
+mod edge;
+#[cfg(test)]
+mod lamps;
+#[cfg(test)]
+mod running;
