@@ -51,6 +51,7 @@ impl<R: Files> Source for FileSource<R> {
 
     ghost may_open = { λ _ _. ⊤ };
 
+    /// A name that isn't there is a fault.
     fn open(&mut self, name: &str) -> Result<(), SourceFault>
         ensures count { self.new ≡ (if is_ok result then self.old else raised self.old) }
         ensures cause { HasCause self.old self.new result }

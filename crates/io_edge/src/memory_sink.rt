@@ -81,6 +81,7 @@ impl Sink for MemorySink {
 
     ghost faults = { λ s. s.faults };
 
+    /// Fails exactly where the call is named to fail, and else takes what fits.
     fn write(&mut self, bytes: &[u8]) -> Result<usize, SinkFault>
         ensures answer { is_ok result ≡ not (fails_next self.old) }
         ensures count { IfOk result (λ n. n ≡ length (fitting self.old bytes.now)) }

@@ -1,9 +1,7 @@
 // Files in memory, as a source that fails where it is told to.
-ghost use Rattle.std.specs.Prelude.{◌≡◌, ◌++◌, ◌∷◌, [], ◌≤◌, not, min, is_ok, length, take, drop, IfOk, OnOk, OnErr};
+ghost use Rattle.std.specs.Prelude.{◌≡◌, ◌++◌, ◌∷◌, [], not, min, is_ok, length, IfOk, OnOk, OnErr};
 ghost use Rattle.std.specs.FinMap as map;
 ghost use Rattle.io_edge.specs.Faults.{HasCause};
-ghost use Rattle.io_edge.specs.Files.{Opens, SameNames};
-ghost use Rattle.io_edge.specs.Reading.{Reads};
 ghost use Rattle.io_edge.specs.Shelf.{filled};
 ghost use Rattle.io_edge.specs.SourceState.{after_open, after_read, fails_next, opens};
 
@@ -20,7 +18,7 @@ use std::marker::Model;
 #[derive(Drop)]
 pub struct MemorySource {
     alloc: Global,
-    // the oldest first: bytes that were replaced stay, since they may be what is being read
+    // The oldest first. Bytes that were replaced stay, since they may be what is being read.
     files: Vec<File>,
     reading: Option<Place>,
     failing: Vec<u32>,
@@ -62,8 +60,8 @@ impl MemorySource {
         }
     }
 
-    #[tactic(auto, using(crate::proofs::Newest::one_more_file))]
     /// Gives a name these bytes, in place of those that it had. What is being read stays as it is.
+    #[tactic(auto, using(crate::proofs::Newest::one_more_file))]
     pub fn add(&mut self, name: &str, bytes: &[u8]) -> Result<(), NoMemory>
         ensures ok { OnOk result (self.new ≡
             record self.old { files = map.insert self.old.files name.now bytes.now }) }
@@ -99,6 +97,7 @@ impl Source for MemorySource {
 
     ghost may_open = { λ _ _. ⊤ };
 
+    /// Fails exactly where the call is named to fail, or no file has the name.
     fn open(&mut self, name: &str) -> Result<(), SourceFault>
         ensures answer { is_ok result ≡ opens self.old name.now }
         ensures state { self.new ≡ after_open self.old name.now }
@@ -115,6 +114,8 @@ impl Source for MemorySource {
         Err(SourceFault)
     }
 
+    /// Fails exactly where the call is named to fail, and else gives as many bytes as the buffer and the
+    /// rest allow.
     fn read(&mut self, buf: &mut [u8]) -> Result<usize, SourceFault>
         ensures answer { is_ok result ≡ not (fails_next self.old) }
         ensures count { IfOk result (λ n. n ≡ min (length buf.old) (length self.old.rest)) }

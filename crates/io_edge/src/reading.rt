@@ -83,11 +83,13 @@ pub fn read_all<S: Source>(
     ensures behind { IsErrOf result ReadAllFault.TooLong →
         IsBehind (S.files source.old) name.now (limit + 1) (S.rest source.new) }
 
+    // At most as much was taken where memory was refused, and a fault is the source's.
     ensures no_memory { IsErrOf result ReadAllFault.NoMemory →
         IsBehindSome (S.files source.old) name.now (limit + 1) (S.rest source.new) }
     ensures fault { IsErrOf result ReadAllFault.ReadFault →
         Rose (S.faults source.old) (S.faults source.new) }
 
+    // The source goes on as the same one.
     ensures later { S.faults source.old ≤ S.faults source.new }
     ensures files { S.files source.new ≡ S.files source.old }
     ensures names { SameNames (S.may_open source.old) (S.may_open source.new) }

@@ -2,7 +2,7 @@
 ghost use Rattle.std.specs.Prelude.{◌≡◌, ◌<◌, min, length, drop};
 ghost use Rattle.io_edge.specs.Shelf.{IsNewest, filled, rest_of};
 
-/// A file: the bytes of its name, and its own.
+/// A file: the bytes of its name, and those that it holds.
 #[derive(Drop)]
 pub struct File {
     pub name: Vec<u8>,
