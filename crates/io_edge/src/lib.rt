@@ -4,9 +4,9 @@
 //!
 //! What an end holds is told by ghost members: the files of a source and the rest of the opened one,
 //! the bytes that a sink took, each where it is known, and a count of faults. The key clause is that
-//! of [`read_all`]: an `Ok` is the whole file, `TooLong` comes exactly where the file is longer than
-//! the limit, and a fault only where the source's own count rose in the call, so that no caller can
-//! give up and blame the outside. [`write_all`] says the same of a text.
+//! of [`read_all`]: an `Ok` is the whole file, which isn't longer than the limit, `TooLong` comes only
+//! where it is longer, and a fault only where the source's own count rose in the call, so that no
+//! caller can give up and blame the outside. [`write_all`] says the same of a text.
 //!
 //! Nothing is said of what a file of the system holds, or where standard output leads: [`FileSource`]
 //! and [`StdoutSink`] tell no bytes, and their few lines are trusted for that. Nor is it said that
