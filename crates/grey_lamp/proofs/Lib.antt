@@ -3,6 +3,7 @@ pub mod ColourLemmas
 pub mod Greedy
 pub mod Safety
 pub mod NumeralLemmas
+pub mod OneVerdict
 pub mod PageLemmas
 pub mod SameLamp
 pub mod Seconds

@@ -24,12 +24,6 @@ pub record IsFirstTurns (shown : ℕ → Bool) (start window : ℕ) (frames : Li
 abbrev pub HasNoTurns : (ℕ → Bool) → ℕ → ℕ → Type 0
 HasNoTurns shown start window = (frames : List ℕ) → IsTurns shown start window frames → ⊥
 
--- nine frames of the window that begins at a frame, whose colours rise and fall in turn
-abbrev pub IsLampChain : Setup → Lamp → ℕ → List ℕ → Type 0
-IsLampChain setup lamp start frames =
-    IsChain (Between IsRise (lamp_colour setup lamp)) (Between IsFall (lamp_colour setup lamp)) start
-    (window_of setup) frames
-
 -- no window that begins before a frame has such frames
 abbrev pub HasNoTurnsBefore : (ℕ → Bool) → ℕ → ℕ → Type 0
 HasNoTurnsBefore shown window limit = (start : ℕ) → start < limit → HasNoTurns shown start window
@@ -39,6 +33,12 @@ pub record IsFirstWindow (shown : ℕ → Bool) (window limit start : ℕ) (fram
   pub below : start < limit
   pub least : IsFirstTurns shown start window frames
   pub none_before : HasNoTurnsBefore shown window start
+
+-- nine frames of the window that begins at a frame, whose colours rise and fall in turn
+abbrev pub IsLampChain : Setup → Lamp → ℕ → List ℕ → Type 0
+IsLampChain setup lamp start frames =
+    IsChain (Between IsRise (lamp_colour setup lamp)) (Between IsFall (lamp_colour setup lamp)) start
+    (window_of setup) frames
 
 -- the window has a chain, and this is the least
 pub record IsFirstChain (setup : Setup) (lamp : Lamp) (start : ℕ) (frames : List ℕ) : Type 0 where

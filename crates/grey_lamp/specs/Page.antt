@@ -1,7 +1,6 @@
 -- The bytes of a grey lamp page.
-use Rattle.std.specs.Prelude.{ℕ, ◌≡◌, ◌≤◌, ◌/◌, ◌%◌, List, [], ◌∷◌, ◌++◌, codes}
+use Rattle.std.specs.Prelude.{ℕ, ◌≡◌, ◌≤◌, ◌/◌, ◌%◌, List, [], ◌∷◌, ◌++◌, codes, false}
 use Rattle.std.specs.Fmt.{decimal, digit_glyph}
-use Rattle.std.specs.Prelude.{false}
 use Rattle.grey_lamp.specs.declared.lamp.Lamp.{Lamp}
 
 -- a level as a pair of lower case hexadecimal digits

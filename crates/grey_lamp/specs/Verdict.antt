@@ -13,18 +13,19 @@ use Rattle.grey_lamp.specs.Chain.{IsFirstChain, IsLampChain}
 use Rattle.grey_lamp.specs.Colour.{lamp_colour, lamp_painting, lamp_tint, only}
 use Rattle.grey_lamp.specs.Course.{IsNeeded}
 
--- the size of the part of the viewport that the rectangle at 0 0 shows
+-- how many columns of the viewport the rectangle at 0 0 holds
 abbrev pub shown_width : Setup → ℕ
 shown_width setup = min 341 setup.width
 
+-- how many of its rows
 abbrev pub shown_height : Setup → ℕ
 shown_height setup = min 256 setup.height
 
--- how many pixels that part has
+-- how many of its pixels
 abbrev pub shown_area : Setup → ℕ
 shown_area setup = shown_width setup * shown_height setup
 
--- the part of a witness: all that the rectangle shows, its frames the first chain of the window, its tints the lamp's
+-- the part of a witness: all that the rectangle holds, its frames the first chain of the window, its tints the lamp's
 pub record IsLampPart (setup : Setup) (lamp : Lamp) (start : ℕ) (part : Part) : Type 0 where
   pub x : part.x ≡ 0
   pub y : part.y ≡ 0
@@ -34,7 +35,7 @@ pub record IsLampPart (setup : Setup) (lamp : Lamp) (start : ℕ) (part : Part) 
   pub frames : IsFirstChain setup lamp start part.frames
   pub tints : part.tints ≡ map (λ frame. only (lamp_colour setup lamp frame)) part.frames
 
--- the witness of a lamp, but for the place of its start
+-- a witness of a lamp, exact but for its start: the setup's numbers, the rectangle at 0 0, and one part
 pub record IsLampWitness (setup : Setup) (lamp : Lamp) (w : Witness) : Type 0 where
   pub same_setup : HasSetup setup w
   pub x : w.x ≡ pos 0

@@ -6,7 +6,7 @@ use crate::lamp::Lamp;
 use page_model::Setup;
 
 /// The last frame that is asked for.
-const LAST_FRAME: u32 = 200_000;
+pub(crate) const LAST_FRAME: u32 = 200_000;
 
 /// Whether the lamp shows its second grey in a frame. Times are in units of 1 / rate milliseconds.
 pub(crate) fn is_second(lamp: &Lamp, setup: &Setup, frame: u32) -> bool

@@ -1,24 +1,26 @@
 // The verdict on a lamp.
-ghost use Rattle.std.specs.Prelude.{◌≡◌, ◌≤◌, ◌↔◌, IfOk, IfSome, IsTrue, MatchOption};
+ghost use Rattle.std.specs.Prelude.{◌≤◌, ◌↔◌, IfOk, IfSome, IsTrue, MatchOption};
 ghost use Rattle.page_model.specs.Flash.{IsSafe};
 ghost use Rattle.grey_lamp.specs.Chain.{CanFlash};
-ghost use Rattle.grey_lamp.specs.Colour.{grey, lamp_painting};
+ghost use Rattle.grey_lamp.specs.Colour.{lamp_painting};
 ghost use Rattle.grey_lamp.specs.Course.{IsNeeded};
 ghost use Rattle.grey_lamp.specs.Verdict.{IsFirstBad, IsLampVerdict};
 
 use crate::chain::{MOST_FRAMES, Turns, first_turns};
+use crate::colour::grey;
 use crate::course::needed_frames;
 use crate::lamp::Lamp;
 use crate::verdict::LampVerdict;
 use crate::witness::{lamp_witness, pixels};
-use page_model::{NoMemory, Rgb, Setup};
+use page_model::{NoMemory, Setup};
 use srgb_luma::is_rise;
 use std::alloc::Global;
 
 /// A quarter of the rectangle: so many flashing pixels are safe.
 const QUARTER: u32 = 21_824;
 
-/// The verdict on a lamp's page, in a viewport and at a rate.
+/// The verdict on a lamp's page, in a viewport and at a rate. Only a fail takes memory, for its
+/// witness.
 pub fn judge_lamp(alloc: Global, lamp: &Lamp, setup: &Setup) -> Result<LampVerdict, NoMemory>
     ensures { IfOk result (λ verdict. IsLampVerdict setup.now lamp.now verdict) }
 {
@@ -53,15 +55,4 @@ fn can_flash(lamp: &Lamp) -> bool
     let first = grey(lamp.first);
     let second = grey(lamp.second);
     is_rise(first, second) || is_rise(second, first)
-}
-
-/// The colour whose three channels are one level.
-fn grey(level: u8) -> Rgb
-    ensures { result ≡ grey level }
-{
-    Rgb {
-        r: level,
-        g: level,
-        b: level,
-    }
 }

@@ -11,6 +11,7 @@
 #![tactic(auto)]
 
 mod chain;
+mod colour;
 mod course;
 mod judging;
 mod lamp;

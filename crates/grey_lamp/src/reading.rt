@@ -1,6 +1,7 @@
 // A lamp from the bytes of its page. The page is read by fixed places, with no care for what stands
 // between them; then the page of what was read is printed, and compared with the bytes.
-ghost use Rattle.std.specs.Prelude.{◌≡◌, ◌<◌, ◌≤◌, ◌++◌, ℕ, List, IfOk, MatchOption, drop, false, length, slice_index};
+ghost use Rattle.std.specs.Prelude.{◌≡◌, ◌<◌, ◌≤◌, ◌++◌, ℕ, List, IfOk, MatchOption};
+ghost use Rattle.std.specs.Prelude.{drop, false, length, slice_index};
 ghost use Rattle.std.specs.Fmt.{decimal, digit_glyph};
 ghost use Rattle.grey_lamp.specs.Page.{hex_pair, IsLampPage, IsNoLampPage};
 ghost use Rattle.grey_lamp.specs.declared.lamp.Lamp.{Lamp as LampValue};
@@ -10,15 +11,16 @@ use crate::page::page_of;
 use page_model::NoMemory;
 use std::alloc::Global;
 
-/// Where the digits of the first grey stand, and where the duration does.
+/// Where the digits of the first grey stand.
 const FIRST: usize = 57;
 
+/// Where the duration stands.
 const DURATION: usize = 76;
 
-/// How many bytes stand between the duration and the count, and between the count and the digits of
-/// the second grey.
+/// How many bytes stand between the duration and the count.
 const TO_TIMES: usize = 12;
 
+/// How many bytes stand between the count and the digits of the second grey.
 const TO_SECOND: usize = 64;
 
 /// The most digits of a number.
@@ -31,10 +33,13 @@ struct Numeral {
     length: usize,
 }
 
-/// The lamp whose page has these bytes; `None` where no lamp's page has.
+/// The lamp whose page has these bytes; `None` where no lamp's page has. It takes memory for a page
+/// to compare with.
 pub fn lamp_of(alloc: Global, bytes: &[u8]) -> Result<Option<Lamp>, NoMemory>
-    ensures found { IfOk result (λ found. MatchOption found (IsNoLampPage bytes.now) (λ lamp. IsLampPage bytes.now lamp)) }
-    ensures only { (lamp : LampValue) → IsLampPage bytes.now lamp → IfOk result (λ found. found ≡ Some lamp) }
+    ensures found { IfOk result (λ found.
+        MatchOption found (IsNoLampPage bytes.now) (λ lamp. IsLampPage bytes.now lamp)) }
+    ensures only { (lamp : LampValue) → IsLampPage bytes.now lamp
+        → IfOk result (λ found. found ≡ Some lamp) }
 {
     let Some(lamp) = guess(bytes) else {
         return Ok(None);
@@ -85,7 +90,8 @@ fn after(bytes: &[u8], count: usize) -> &[u8]
 
 /// The level that a pair of hexadecimal digits at the front spells.
 fn level_at(bytes: &[u8]) -> u8
-    ensures { (level : ℕ) (rest : List ℕ) → level < 256 → bytes.now ≡ hex_pair level ++ rest → result ≡ level }
+    ensures { (level : ℕ) (rest : List ℕ) → level < 256 → bytes.now ≡ hex_pair level ++ rest
+        → result ≡ level }
 {
     if bytes.len() < 2 {
         return 0;
@@ -107,7 +113,8 @@ fn hex_value(byte: u8) -> u8
 
 /// The number that the digits at the front spell, six of them at most.
 fn number_at(bytes: &[u8]) -> Numeral
-    ensures value { (n : ℕ) (rest : List ℕ) → n ≤ 100000 → 57 < slice_index rest 0 → bytes.now ≡ decimal n ++ rest
+    ensures value { (n : ℕ) (rest : List ℕ) → n ≤ 100000 → 57 < slice_index rest 0
+        → bytes.now ≡ decimal n ++ rest
         → (result.value ≡ n) × (result.length ≡ length (decimal n)) }
     ensures short { result.length ≤ MOST_DIGITS }
 {

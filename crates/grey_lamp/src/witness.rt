@@ -1,18 +1,18 @@
 // The witness of a lamp that isn't safe.
-ghost use Rattle.std.specs.Prelude.{◌≡◌, ◌≤◌, All, IfOk, length, map};
+ghost use Rattle.std.specs.Prelude.{◌≡◌, ◌≤◌, IfOk};
 ghost use Rattle.grey_lamp.specs.Chain.{IsFirstChain};
-ghost use Rattle.grey_lamp.specs.Colour.{lamp_colour, only};
 ghost use Rattle.grey_lamp.specs.Verdict.{IsLampWitness, shown_area, shown_height, shown_width};
 
-use crate::chain::Turns;
-use crate::course::is_second;
+use crate::chain::{MOST_FRAMES, Turns};
+use crate::colour::tints_at;
 use crate::lamp::Lamp;
-use page_model::{Kind, List, NoMemory, Part, Rgb, Setup, Tint, Witness};
+use page_model::{Kind, List, NoMemory, Part, Setup, Witness};
 use std::alloc::Global;
 
-/// The size of the rectangle.
+/// The width of the rectangle.
 const WIDTH: u16 = 341;
 
+/// The height of the rectangle.
 const HEIGHT: u16 = 256;
 
 /// How many columns of the rectangle at 0 0 the viewport shows.
@@ -36,39 +36,6 @@ pub(crate) fn pixels(setup: &Setup) -> u32
     u32::from(columns(setup)) * u32::from(rows(setup))
 }
 
-/// The tint of every pixel in a frame.
-fn tint_at(lamp: &Lamp, setup: &Setup, frame: u32) -> Tint
-    requires { frame ≤ 200000 }
-    ensures { result ≡ only (lamp_colour setup.now lamp.now frame) }
-{
-    let level = if is_second(lamp, setup, frame) {
-        lamp.second
-    } else {
-        lamp.first
-    };
-    let colour = Rgb {
-        r: level,
-        g: level,
-        b: level,
-    };
-    Tint {
-        lo: colour,
-        hi: colour,
-    }
-}
-
-/// The tints in nine frames.
-fn tints_at(lamp: &Lamp, setup: &Setup, frames: &[u32; 9]) -> [Tint; 9]
-    requires { All (λ k. k ≤ 200000) frames.now }
-    ensures { result ≡ map (λ k. only (lamp_colour setup.now lamp.now k)) frames.now }
-{
-    let mut tints = [tint_at(lamp, setup, frames[0]); 9];
-    for turn in 0..9 {
-        tints[turn] = tint_at(lamp, setup, frames[turn]);
-    }
-    tints
-}
-
 /// The witness of a window of these frames, at 0 0 and with one part.
 pub(crate) fn lamp_witness(
     alloc: Global,
@@ -76,7 +43,7 @@ pub(crate) fn lamp_witness(
     setup: &Setup,
     turns: &Turns,
 ) -> Result<Witness, NoMemory>
-    requires early { turns.now.start ≤ 100000 }
+    requires early { turns.now.start ≤ MOST_FRAMES }
     requires chain { IsFirstChain setup.now lamp.now turns.now.start turns.now.frames }
     ensures start { IfOk result (λ w. w.start ≡ turns.now.start) }
     ensures exact { IfOk result (λ w. IsLampWitness setup.now lamp.now w) }

@@ -3,7 +3,7 @@ use Rattle.std.specs.Prelude.{slice_set}
 use Rattle.std.proofs.lemmas.Bool.{cases_eq}
 use Rattle.std.proofs.lemmas.List.{length-set, length-map, same_lists, get_or-map}
 use Rattle.grey_lamp.specs.Colour.{lamp_colour, only}
-use Rattle.grey_lamp.proofs.witness.tints_at.Goals as goal
+use Rattle.grey_lamp.proofs.colour.tints_at.Goals as goal
 
 pub loop-turn-preserved : goal.loop-turn-preserved
 loop-turn-preserved c =

@@ -1,7 +1,7 @@
 use Rattle.std.proofs.Common.{◌≡◌, ◌<◌, ℕ, get_or, length}
 use Rattle.page_model.specs.declared.colour.Tint.{Tint}
 use Rattle.grey_lamp.specs.Colour.{lamp_colour, only}
-use Rattle.grey_lamp.proofs.witness.tints_at.Given as goal
+use Rattle.grey_lamp.proofs.colour.tints_at.Given as goal
 
 abbrev pub invariant-loop-turn : goal.invariant-loop-turn
 invariant-loop-turn l =
