@@ -1,9 +1,10 @@
 -- The witness of a lamp meets all conditions.
-use Rattle.std.proofs.Common.{ℕ, zero, suc, ◌≡◌, ◌+◌, ◌*◌, ◌<◌, ◌≤◌, ◌∙◌, List, [], ◌∷◌, ap, sym, refl, inl, inr, arith}
+use Rattle.std.proofs.Common.{ℕ, zero, suc, ◌≡◌, ◌+◌, ◌*◌, ◌<◌, ◌≤◌, ◌∙◌, List, [], ◌∷◌, ap, sym, refl, inl, inr, arith, length}
 use Rattle.std.specs.Prelude.{pos, All, map, slice_get, Some, sum_by}
 use Rattle.std.specs.Option.{option_map}
 use Rattle.std.specs.List.Sorted.{IsStrictlyIncreasing}
 use Rattle.std.proofs.lemmas.Int.{ints}
+use Rattle.std.proofs.lemmas.List.{length-map}
 use Rattle.std.proofs.lemmas.List.Elements.{All-cons, All-same}
 use Rattle.std.proofs.lemmas.Option.{slice_get-map}
 use Rattle.std.proofs.Math.Nat.{min-le_left, min-le_right}
@@ -13,7 +14,7 @@ use Rattle.page_model.specs.declared.witness.Witness.{Witness}
 use Rattle.page_model.specs.Change.{IsSureRise, IsSureFall}
 use Rattle.page_model.specs.Flash.{Alternates}
 use Rattle.page_model.specs.Time.{window_of}
-use Rattle.page_model.specs.WitnessConditions.{AlternatesSurely, HasTints, IsWitness, LiesInside}
+use Rattle.page_model.specs.WitnessConditions.{AlternatesSurely, HasNineTurns, HasTints, IsWitness, LiesInside}
 use Rattle.grey_lamp.specs.declared.lamp.Lamp.{Lamp}
 use Rattle.grey_lamp.specs.Colour.{lamp_colour, lamp_tint, only}
 use Rattle.grey_lamp.specs.Verdict.{IsLampPart, IsLampWitness, shown_area, shown_height, shown_width}
@@ -54,6 +55,13 @@ lies_inside setup lamp w part x y enough p =
       above = rw y (omega (arith, ints));
     }
 
+nine_turns : (setup : Setup) (lamp : Lamp) (start : ℕ) (part : Part) → IsLampPart setup lamp start part → HasNineTurns part
+nine_turns setup lamp start part p =
+    record {
+      frames = p.frames.chain.nine;
+      tints = ap length p.tints ∙ length-map part.frames (λ k. only (lamp_colour setup lamp k)) ∙ p.frames.chain.nine;
+    }
+
 tints_hold : (setup : Setup) (lamp : Lamp) (start : ℕ) (part : Part) → IsLampPart setup lamp start part
     → HasTints (lamp_tint setup lamp) part
 tints_hold setup lamp start part p turn frame tint is_frame is_tint column row of_part =
@@ -80,6 +88,7 @@ pub is_witness : (setup : Setup) (lamp : Lamp) (w : Witness) → 21824 < shown_a
     → IsWitness setup (lamp_tint setup lamp) w
 is_witness setup lamp w enough h =
     record {
+      turns = of_all HasNineTurns (nine_turns setup lamp w.start h.part h.one_part);
       same_setup = h.same_setup;
       inside = of_all (LiesInside setup w) (lies_inside setup lamp w h.part h.x h.y enough h.one_part);
       apart = λ i j first second less at_i at_j column row in_first in_second.

@@ -79,3 +79,10 @@ abbrev pub Reaches : Easing → Fraction → ℤ → ℤ → Type 0
 Reaches Linear at a b = FractionReaches at a b
 Reaches (Steps count jump) at a b = FractionReaches (stepped count jump at) a b
 Reaches (Cubic x1 y1 x2 y2) at a b = CurveReaches x1 y1 x2 y2 at a b
+
+-- the eased value itself, where it is a fraction: by `linear` and `steps`. A curve's is none; the input stands for it here, and
+-- nothing is said of it.
+abbrev pub eased : Easing → Fraction → Fraction
+eased Linear at = at
+eased (Steps count jump) at = stepped count jump at
+eased (Cubic x1 y1 x2 y2) at = at

@@ -15,10 +15,11 @@ use Rattle.page_model.specs.declared.property.Value.TheVariants as value
 use Rattle.page_model.specs.declared.scene.Held.{Held}
 use Rattle.page_model.specs.declared.scene.Layer.{Layer}
 use Rattle.page_model.specs.declared.scene.Scene.{Scene}
+use Rattle.page_model.specs.Curve.{eased}
 use Rattle.page_model.specs.Fraction.{zero_of_one}
 use Rattle.page_model.specs.Keyframes.{Interval, interval_of, last_of}
-use Rattle.page_model.specs.Progress.{progress_of}
-use Rattle.page_model.specs.Slot.{Slot, channel, alpha, position, extent, IsSlotValue, IsShownValue}
+use Rattle.page_model.specs.Progress.{above_zero, progress_of}
+use Rattle.page_model.specs.Slot.{Slot, channel, alpha, position, extent, IsSlotValue, IsShownValue, slot_value, shown_value}
 
 -- the colour that stands for none: no layer without a colour is painted
 abbrev pub no_colour : Rgb
@@ -143,3 +144,32 @@ pub record IsStateAt (scene : Scene) (setup : Setup) (frame : ℕ) (layer : Laye
   pub is_top : IsValueOn position length_of (course_of scene setup frame layer Top) state.top
   pub is_width : IsValueOn extent length_of (course_of scene setup frame layer Width) state.width
   pub is_height : IsValueOn extent length_of (course_of scene setup frame layer Height) state.height
+
+-- the same, computed: the value that a slot takes on a course, whether a layer is shown, and its state. They are the exact ones
+-- where no easing is a curve.
+abbrev pub value_on : Slot → (Value → ℤ) → Course → ℤ
+value_on slot part (still x) = slot_value slot (part x) (part x) zero_of_one
+value_on slot part (moving interval) =
+    slot_value slot (part interval.from) (part interval.to) (eased interval.easing interval.distance)
+
+abbrev pub shown_on : Course → Bool
+shown_on (still x) = visible_of x
+shown_on (moving interval) =
+    shown_value (visible_of interval.from) (visible_of interval.to) (eased interval.easing interval.distance)
+
+abbrev pub shown_with : Option Rgb → Course → Bool
+shown_with None course = false
+shown_with (Some colour) course = shown_on course
+
+abbrev pub state_at : Scene → Setup → ℕ → Layer → State
+state_at scene setup frame layer = record {
+  red = above_zero (value_on channel red_of (course_of scene setup frame layer Background));
+  green = above_zero (value_on channel green_of (course_of scene setup frame layer Background));
+  blue = above_zero (value_on channel blue_of (course_of scene setup frame layer Background));
+  alpha = above_zero (value_on alpha alpha_of (course_of scene setup frame layer Opacity));
+  shown = shown_with layer.colour (course_of scene setup frame layer Visibility);
+  left = value_on position length_of (course_of scene setup frame layer Left);
+  top = value_on position length_of (course_of scene setup frame layer Top);
+  width = value_on extent length_of (course_of scene setup frame layer Width);
+  height = value_on extent length_of (course_of scene setup frame layer Height);
+}

@@ -1,7 +1,7 @@
 -- The whole value of a slot: a channel, an alpha or a length, rounded half up and held in its range. From one value to another
 -- at an eased value E it is the greatest whole v for which (to - from) E reaches unit (v - 1/2) - from. The rounding is the
 -- project's own; interpolation is that of CSS Animations Level 1 and its property types.
-use Rattle.std.specs.Prelude.{ℕ, ℤ, pos, negsuc, neg_ℤ, Bool, true, false, ◌≡◌, ◌*◌, ◌+ℤ◌, ◌-ℤ◌, ◌*ℤ◌, ◌≤ℤ◌, ◌<ℤ◌}
+use Rattle.std.specs.Prelude.{ℕ, ℤ, pos, negsuc, neg_ℤ, Bool, true, false, ◌≡◌, ◌*◌, ◌+ℤ◌, ◌-ℤ◌, ◌*ℤ◌, ◌≤ℤ◌, ◌<ℤ◌, nat_lt}
 use Rattle.std.specs.Int.{int_min, int_max, int_div_euclid}
 use Rattle.page_model.specs.declared.easing.Easing.{Easing}
 use Rattle.page_model.specs.Curve.{Reaches}
@@ -76,3 +76,10 @@ IsShownValue easing at true true shown = shown ≡ true
 IsShownValue easing at true false shown = IsHiddenExactlyWhere (Reaches easing at (pos 1) (pos 1)) shown
 IsShownValue easing at false true shown = IsHiddenExactlyWhere (Reaches easing at (negsuc 0) (pos 0)) shown
 IsShownValue easing at false false shown = shown ≡ false
+
+-- the same, computed at a fraction
+abbrev pub shown_value : Bool → Bool → Fraction → Bool
+shown_value true true x = true
+shown_value true false x = nat_lt x.num x.den
+shown_value false true x = nat_lt 0 x.num
+shown_value false false x = false

@@ -1,7 +1,7 @@
 -- What makes a stated bad window a witness: nine conditions over the tints of a page, which are handed in as a function from a
 -- frame, a column and a row. Who tests all nine knows that the window is bad, and need not trust who stated it. This is the
 -- project's own.
-use Rattle.std.specs.Prelude.{ℕ, ◌≡◌, ◌+◌, ◌*◌, ◌<◌, ◌≤◌, ◌≤ℤ◌, ◌+ℤ◌, pos, List, slice_get, Some, sum_by, All}
+use Rattle.std.specs.Prelude.{ℕ, ◌≡◌, ◌+◌, ◌*◌, ◌<◌, ◌≤◌, ◌≤ℤ◌, ◌+ℤ◌, pos, List, length, slice_get, Some, sum_by, All}
 use Rattle.std.specs.List.Sorted.{IsStrictlyIncreasing}
 use Rattle.page_model.specs.declared.setup.Setup.{Setup}
 use Rattle.page_model.specs.declared.colour.Tint.{Tint}
@@ -83,8 +83,14 @@ AlternatesSurely Red tints = AlternatesEitherWay IsSurelyIntoRed IsSurelyOutOfRe
 abbrev pub TintsChange : Witness → Type 0
 TintsChange w = All (λ (part : Part). AlternatesSurely part.kind part.tints) w.parts
 
--- all nine conditions
+-- a part tells nine turns: nine frames, and a tint for each
+pub record HasNineTurns (part : Part) : Type 0 where
+  pub frames : length part.frames ≡ 9
+  pub tints : length part.tints ≡ 9
+
+-- all nine conditions, over parts of nine turns
 pub record IsWitness (setup : Setup) (tint_at : ℕ → ℕ → ℕ → Tint) (w : Witness) : Type 0 where
+  pub turns : All HasNineTurns w.parts
   pub same_setup : HasSetup setup w
   pub inside : PartsInside setup w
   pub apart : PartsApart w

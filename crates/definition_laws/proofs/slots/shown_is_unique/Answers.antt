@@ -1,0 +1,5 @@
+use Rattle.definition_laws.proofs.slots.shown_is_unique.Goals as goal
+use Rattle.definition_laws.proofs.SlotLemmas.{shown-unique}
+
+pub returns : goal.returns
+returns c = shown-unique

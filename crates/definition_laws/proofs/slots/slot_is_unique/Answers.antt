@@ -1,0 +1,5 @@
+use Rattle.definition_laws.proofs.slots.slot_is_unique.Goals as goal
+use Rattle.definition_laws.proofs.SlotLemmas.{slot-unique}
+
+pub returns : goal.returns
+returns c = slot-unique

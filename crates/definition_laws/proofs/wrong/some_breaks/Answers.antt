@@ -1,0 +1,5 @@
+use Rattle.definition_laws.proofs.wrong.some_breaks.Goals as goal
+use Rattle.definition_laws.proofs.WrongLemmas.{some-breaks}
+
+pub returns : goal.returns
+returns c = some-breaks

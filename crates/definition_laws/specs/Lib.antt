@@ -1,0 +1,16 @@
+pub mod ComputedLaws
+pub mod DecidedLaws
+pub mod EndLaws
+pub mod ExamplePage
+pub mod FractionLaws
+pub mod IntervalLaws
+pub mod KindLaws
+pub mod LooseLaws
+pub mod PaintLaws
+pub mod RunLaws
+pub mod SafetyLaws
+pub mod SlotLaws
+pub mod StillLaws
+pub mod TintLaws
+pub mod WrongRun
+pub mod WrongSlot

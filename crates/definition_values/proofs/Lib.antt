@@ -1,0 +1,16 @@
+mod CellLemmas
+mod DivisionLemmas
+mod ElapsedLemmas
+mod LeastLemmas
+mod LightTable
+mod PageLemmas
+mod PeriodLemmas
+mod RedLemmas
+mod RedTable
+mod RepeatLemmas
+mod SettledLemmas
+mod StateLemmas
+mod TermLemmas
+mod ValidLemmas
+mod WeightLemmas
+mod WindowLemmas

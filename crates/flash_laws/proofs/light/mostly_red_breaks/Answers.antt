@@ -1,0 +1,6 @@
+-- The law is proved in `proofs/WrongLemmas`.
+use Rattle.flash_laws.proofs.WrongLemmas as laws
+use Rattle.flash_laws.proofs.light.mostly_red_breaks.Goals as goal
+
+pub returns : goal.returns
+returns c = laws.mostly_red_breaks
