@@ -20,7 +20,7 @@ use Rattle.definition_laws.specs.ComputedLaws.{HasNoCurve, IsNoCurve}
 use Rattle.definition_laws.specs.ExamplePage.{body_with, keyed, turns_white}
 use Rattle.definition_laws.specs.StillLaws.{BlinkingIsBad, blinking_page, blinks, ten_a_second}
 use Rattle.definition_laws.proofs.ComputedLemmas.{state-computed}
-use Rattle.definition_laws.proofs.PageLemmas.{blinks-valid, page-valid}
+use Rattle.definition_laws.proofs.ExamplePageLemmas.{blinks-valid, page-valid}
 
 blinking-valid : IsValid blinking_page
 blinking-valid = page-valid blinks 5000 blinks-valid (omega arith) (omega arith)

@@ -14,11 +14,11 @@ use Rattle.page_model.specs.Progress.{above_zero}
 use Rattle.page_model.specs.Slot.{Slot, alpha, channel, extent, position}
 use Rattle.page_model.specs.ValidScene.{IsValid}
 use Rattle.definition_laws.specs.ComputedLaws.{HasNoCurve, RunIsComputed, SafetyIsComputed, StateIsComputed, computed_run}
-use Rattle.definition_laws.proofs.IntervalLemmas.{IsPlainOn, eased-positive, scene-plain}
+use Rattle.definition_laws.proofs.CourseLemmas.{IsPlainOn, eased-positive, scene-plain}
 use Rattle.definition_laws.proofs.RoundingLemmas.{shown-at, slot-is}
 use Rattle.definition_laws.proofs.RunLemmas.{value-at_least}
 use Rattle.definition_laws.proofs.SafetyLemmas.{safe-one_painting}
-use Rattle.definition_laws.proofs.SlotLemmas.{state-unique}
+use Rattle.definition_laws.proofs.UniqueLemmas.{state-unique}
 
 value-is :
     (slot : Slot) (part : Value → ℤ) (course : Course) → 0 < slot.unit → slot.least ≤ℤ slot.greatest → IsPlainOn course

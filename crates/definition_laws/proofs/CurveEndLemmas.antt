@@ -9,7 +9,7 @@ use Rattle.page_model.specs.Fraction.{Fraction}
 use Rattle.page_model.specs.Least.{greatest_up_to}
 use Rattle.srgb_luma.proofs.GreatestLemmas.{greatest_up_to-last}
 use Rattle.definition_laws.specs.EndLaws.{CurveEnds}
-use Rattle.definition_laws.proofs.SlotLemmas.{times-mono}
+use Rattle.definition_laws.proofs.UniqueLemmas.{times-mono}
 
 -- the limit is the greatest where it passes
 greatest-top : (m : ℕ) (test : ℕ → Bool) → test m ≡ true → greatest_up_to m test ≡ m

@@ -18,7 +18,7 @@ use Rattle.page_model.specs.Time.{window_of}
 use Rattle.definition_laws.specs.LooseLaws.{LooseRunExists, LooseStateIsUnique, one_value}
 use Rattle.definition_laws.specs.RunLaws.{IsMet}
 use Rattle.definition_laws.proofs.RunLemmas.{range-met, window-met}
-use Rattle.definition_laws.proofs.SlotLemmas.{IsAntitone, Reaches-antitone, greatest-unique, times-mono, twice_to_cover-mono}
+use Rattle.definition_laws.proofs.UniqueLemmas.{IsAntitone, Reaches-antitone, greatest-unique, times-mono, twice_to_cover-mono}
 
 -- where less is asked for, it is reached too: by all values of a kind, and by some
 more-mono : (b c : ℤ) (t : ℕ) → b ≤ℤ c → (pos (2 ^ 16) *ℤ b +ℤ pos t) ≤ℤ (pos (2 ^ 16) *ℤ c +ℤ pos t)

@@ -9,7 +9,7 @@ use Rattle.page_model.specs.Curve.{Reaches, FractionReaches, eased, stepped}
 use Rattle.page_model.specs.Fraction.{Fraction}
 use Rattle.page_model.specs.Slot.{Slot, IsGreatestIn, IsSlotValue, IsShownValue, IsHiddenExactlyWhere, RoundsTo, twice_the_way, twice_to_cover, held, rounded, slot_value, shown_value}
 use Rattle.definition_laws.specs.ComputedLaws.{IsNoCurve, SlotIsComputed, ShownIsComputed}
-use Rattle.definition_laws.proofs.SlotLemmas.{times-mono, slot-unique, shown-unique}
+use Rattle.definition_laws.proofs.UniqueLemmas.{times-mono, slot-unique, shown-unique}
 
 -- the quotient is the greatest whose product isn't above the number
 div-low : (a : ℤ) (q : ℕ) → 0 < q → (int_div_euclid a (pos q) *ℤ pos q) ≤ℤ a

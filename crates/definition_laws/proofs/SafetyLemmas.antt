@@ -15,7 +15,7 @@ use Rattle.page_model.specs.Time.{window_of}
 use Rattle.page_model.specs.ValidScene.{IsValid}
 use Rattle.definition_laws.specs.SafetyLaws.{BadAndSafeExclude, RunsLookAlike, BadByLooks, OneRunTells, SafeWhereNoneIsBad, SafeByOnePainting}
 use Rattle.definition_laws.proofs.RunLemmas.{run-met}
-use Rattle.definition_laws.proofs.SlotLemmas.{state-unique}
+use Rattle.definition_laws.proofs.UniqueLemmas.{state-unique}
 
 -- a box is painted by its own state
 paint_box-same :

@@ -20,7 +20,7 @@ use Rattle.page_model.specs.ValidScene.{IsValid}
 use Rattle.definition_laws.specs.StillLaws.{StillIsSafe}
 use Rattle.definition_laws.proofs.ListLemmas.{All-slice_get}
 use Rattle.definition_laws.proofs.SafetyLemmas.{painted-same}
-use Rattle.definition_laws.proofs.SlotLemmas.{state-unique}
+use Rattle.definition_laws.proofs.UniqueLemmas.{state-unique}
 
 -- without animations a property stays at its declared value
 course-still : (scene : Scene) (setup : Setup) (frame : ℕ) (layer : Layer) (prop : Prop) → layer.anims ≡ [] → course_of scene setup frame layer prop ≡ still (declared layer prop)

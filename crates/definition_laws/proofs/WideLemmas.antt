@@ -14,7 +14,7 @@ use Rattle.page_model.specs.LayerAt.{Course, IsShownOn, IsShownWith, IsValueOn, 
 use Rattle.page_model.specs.Slot.{IsGreatestIn, IsHiddenExactlyWhere, IsShownValue, IsSlotValue, RoundsTo, Slot, alpha, channel, extent, position, twice_the_way, twice_to_cover}
 use Rattle.definition_laws.specs.LooseLaws.{ExactKindIsExact, Holds, WideHoldsExact, one_value, sure_of}
 use Rattle.definition_laws.proofs.LooseLemmas.{AllRound, SomeRound, SomeRound-antitone}
-use Rattle.definition_laws.proofs.SlotLemmas.{IsAntitone, RoundsTo-antitone}
+use Rattle.definition_laws.proofs.UniqueLemmas.{IsAntitone, RoundsTo-antitone}
 
 -- by the exact kind all and some values are the one
 exact-all : (easing : Easing) (at : Fraction) (a b : ℤ) → AllReach exact easing at a b ↔ Reaches easing at a b

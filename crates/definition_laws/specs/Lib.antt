@@ -3,14 +3,14 @@ pub mod DecidedLaws
 pub mod EndLaws
 pub mod ExamplePage
 pub mod FractionLaws
+pub mod HeldTintLaws
 pub mod IntervalLaws
-pub mod KindLaws
 pub mod LooseLaws
 pub mod PaintLaws
 pub mod RunLaws
 pub mod SafetyLaws
-pub mod SlotLaws
 pub mod StillLaws
-pub mod TintLaws
+pub mod UniqueLaws
+pub mod WideLaws
 pub mod WrongRun
 pub mod WrongSlot

@@ -1,5 +1,5 @@
 // What the wide kind says of windows.
-ghost use Rattle.definition_laws.specs.KindLaws.{NeverPossiblyBadIsSafe, SurelyBadIsBad};
+ghost use Rattle.definition_laws.specs.WideLaws.{NeverPossiblyBadIsSafe, SurelyBadIsBad};
 
 /// A window that is surely bad by the wide kind is bad. A sure rise from the lower end is refused.
 pub fn surely_bad_is_bad()

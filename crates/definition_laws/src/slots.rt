@@ -1,5 +1,5 @@
 // The whole value of a slot, and with it a layer's state.
-ghost use Rattle.definition_laws.specs.SlotLaws.{ShownIsUnique, SlotIsUnique, StateIsUnique};
+ghost use Rattle.definition_laws.specs.UniqueLaws.{ShownIsUnique, SlotIsUnique, StateIsUnique};
 
 /// A slot has at most one value, by any easing at any input. A definition that only asks for a value that is reached, and
 /// not for the greatest, is refused.

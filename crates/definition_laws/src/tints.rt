@@ -1,5 +1,5 @@
 // Tints and the colours that they hold.
-ghost use Rattle.definition_laws.specs.TintLaws.{TintHoldsColour, WideTintHoldsColour};
+ghost use Rattle.definition_laws.specs.HeldTintLaws.{TintHoldsColour, WideTintHoldsColour};
 
 /// Whatever loose states hold the states of the layers: the tint of a pixel holds its colour. A tint that blends the lower ends alone
 /// for the lower end is refused: with more alpha a light backdrop gets darker.

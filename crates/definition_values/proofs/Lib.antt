@@ -1,16 +1,17 @@
 mod CellLemmas
-mod DivisionLemmas
-mod ElapsedLemmas
-mod LeastLemmas
 mod LightTable
 mod PageLemmas
-mod PeriodLemmas
 mod RedLemmas
 mod RedTable
-mod RepeatLemmas
-mod SettledLemmas
-mod StateLemmas
-mod TermLemmas
+mod SlideLemmas
 mod ValidLemmas
-mod WeightLemmas
-mod WindowLemmas
+pub mod DivisionLemmas
+pub mod ElapsedLemmas
+pub mod LeastLemmas
+pub mod PeriodLemmas
+pub mod RepeatLemmas
+pub mod SettledLemmas
+pub mod StateLemmas
+pub mod TermLemmas
+pub mod WeightLemmas
+pub mod WindowLemmas

@@ -14,6 +14,7 @@ pub mod PhaseLaws
 pub mod ProgressValues
 pub mod RedValues
 pub mod SceneValues
+pub mod SlideValues
 pub mod SlotValues
 pub mod WinnerLaws
 pub mod WrongCycle

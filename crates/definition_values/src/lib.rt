@@ -31,7 +31,7 @@ mod winner_laws;
 pub use cascade_values::{
     animation_values, match_values, name_values, weight_values, winner_values,
 };
-pub use cell_values::three_boxes_cut;
+pub use cell_values::{sliding_box_cuts, three_boxes_cut};
 pub use chain_values::seventeen_greys;
 pub use cycle_laws::{progress_repeats, wrong_cycle_breaks};
 pub use easing_values::{curve_points, steps_at_both_or_neither, steps_at_one_side};

@@ -1,5 +1,5 @@
 use Rattle.definition_laws.proofs.kinds.never_possibly_bad_is_safe.Goals as goal
-use Rattle.definition_laws.proofs.KindLemmas.{never_possibly-safe}
+use Rattle.definition_laws.proofs.WideKindLemmas.{never_possibly-safe}
 
 pub returns : goal.returns
 returns c = never_possibly-safe

@@ -1,5 +1,5 @@
 use Rattle.definition_laws.proofs.slots.slot_is_unique.Goals as goal
-use Rattle.definition_laws.proofs.SlotLemmas.{slot-unique}
+use Rattle.definition_laws.proofs.UniqueLemmas.{slot-unique}
 
 pub returns : goal.returns
 returns c = slot-unique

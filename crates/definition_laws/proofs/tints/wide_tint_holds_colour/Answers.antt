@@ -1,5 +1,5 @@
 use Rattle.definition_laws.proofs.tints.wide_tint_holds_colour.Goals as goal
-use Rattle.definition_laws.proofs.TintLemmas.{wide_tint-holds}
+use Rattle.definition_laws.proofs.HeldTintLemmas.{wide_tint-holds}
 
 pub returns : goal.returns
 returns c = wide_tint-holds

@@ -1,5 +1,5 @@
 use Rattle.definition_laws.proofs.wrong.red_run_breaks.Goals as goal
-use Rattle.definition_laws.proofs.WrongLemmas.{red_run-breaks}
+use Rattle.definition_laws.proofs.WrongSlotLemmas.{red_run-breaks}
 
 pub returns : goal.returns
 returns c = red_run-breaks

@@ -10,7 +10,7 @@ use Rattle.page_model.specs.Curve.{Reaches, ReachesAt, FractionReaches, curve_he
 use Rattle.page_model.specs.Fraction.{Fraction, zero_of_one}
 use Rattle.page_model.specs.LayerAt.{Course, still, moving, State, IsValueOn, IsShownOn, IsShownWith, red_of, green_of, blue_of, alpha_of, length_of}
 use Rattle.page_model.specs.Slot.{Slot, channel, alpha, position, extent, IsGreatestIn, IsHiddenExactlyWhere, RoundsTo, twice_to_cover, twice_the_way}
-use Rattle.definition_laws.specs.SlotLaws.{SlotIsUnique, ShownIsUnique, StateIsUnique}
+use Rattle.definition_laws.specs.UniqueLaws.{SlotIsUnique, ShownIsUnique, StateIsUnique}
 
 -- with a number each smaller one holds
 abbrev pub IsAntitone : (ℤ → Type 0) → Type 0

@@ -8,8 +8,8 @@ use Rattle.page_model.specs.Slot.{RoundsTo, channel}
 use Rattle.definition_laws.specs.ExamplePage.{body_with}
 use Rattle.definition_laws.specs.WrongRun.{IsRedRunIn, RedRunBreaks, dives, diving, diving_page, one_a_second}
 use Rattle.definition_laws.specs.WrongSlot.{HalfDownBreaks, NearerBreaks, SomeBreaks}
-use Rattle.definition_laws.proofs.PageLemmas.{dives-valid, page-valid}
-use Rattle.definition_laws.proofs.SlotLemmas.{RoundsTo-antitone}
+use Rattle.definition_laws.proofs.ExamplePageLemmas.{dives-valid, page-valid}
+use Rattle.definition_laws.proofs.UniqueLemmas.{RoundsTo-antitone}
 
 pub half_down-breaks : HalfDownBreaks
 half_down-breaks good = good.greatest (omega (arith, ints)) (omega (arith, ints))

@@ -15,7 +15,7 @@ use Rattle.page_model.specs.Red.{white}
 use Rattle.page_model.specs.Slot.{Slot, alpha}
 use Rattle.page_model.specs.TintOf.{Span, blended_span, both, covers_surely, greatest_of, least_of, painted_where, single, span_of, spans_surely, tint_box, tint_by, tint_ground, tint_hull, tint_over}
 use Rattle.definition_laws.specs.LooseLaws.{Holds, HoldsState}
-use Rattle.definition_laws.specs.TintLaws.{IsHeld, IsInSpan, IsInTint, TintHoldsColour, WideTintHoldsColour}
+use Rattle.definition_laws.specs.HeldTintLaws.{IsHeld, IsInSpan, IsInTint, TintHoldsColour, WideTintHoldsColour}
 use Rattle.definition_laws.proofs.PaintLemmas.{blend-grows}
 use Rattle.definition_laws.proofs.WideLemmas.{Tells, tells-surely, tells-surely_not, wide-holds}
 

@@ -15,11 +15,11 @@ use Rattle.page_model.specs.TintOf.{tints_of}
 use Rattle.page_model.specs.Window.{PossiblyFlashes, SurelyFlashes}
 use Rattle.srgb_luma.proofs.GrowthLemmas.{linear_of-mono}
 use Rattle.srgb_luma.proofs.LumaLemmas.{luma_of-mono}
-use Rattle.definition_laws.specs.KindLaws.{NeverPossiblyBadIsSafe, SurelyBadIsBad}
-use Rattle.definition_laws.specs.TintLaws.{IsInTint}
+use Rattle.definition_laws.specs.WideLaws.{NeverPossiblyBadIsSafe, SurelyBadIsBad}
+use Rattle.definition_laws.specs.HeldTintLaws.{IsInTint}
 use Rattle.definition_laws.proofs.DecidedLemmas.{bad-decided}
 use Rattle.definition_laws.proofs.LooseLemmas.{loose_run-met}
-use Rattle.definition_laws.proofs.TintLemmas.{wide_tint-holds}
+use Rattle.definition_laws.proofs.HeldTintLemmas.{wide_tint-holds}
 
 -- colours with equal channels, and a tint that is one colour
 same_colour : (c d : Rgb) → c.r ≡ d.r → c.g ≡ d.g → c.b ≡ d.b → c ≡ d
