@@ -123,7 +123,7 @@ pub record NameValues : Type 0 where
   pub unknown : set_meant number_named three_sets (Some (codes "F")) ≡ None
   pub none : set_meant number_named three_sets None ≡ None
 
--- animation-name: h, none, g, f, h; animation-duration: 100ms, 200ms
+-- animation-name: h, none, g, f, h; animation-duration: 100ms, 200ms, 300ms
 abbrev pub five_names : Winners
 five_names property =
     if property == 11
@@ -133,7 +133,7 @@ five_names property =
       place = 0;
     }))
     else (if property == 12
-    then Some (by_attribute (record { longhand = Durations (100 ∷ (200 ∷ [])); important = false; place = 9 })) else None)
+    then Some (by_attribute (record { longhand = Durations (100 ∷ (200 ∷ (300 ∷ []))); important = false; place = 9 })) else None)
 
 -- an animation with nothing but a set and a duration: all else is initial
 abbrev pub plain : ℕ → ℕ → Anim
@@ -150,5 +150,5 @@ plain set duration = record {
 
 -- durations are repeated over all five names, and only then those without a set are left out
 pub record AnimationValues : Type 0 where
-  pub three_left : animations_won number_named three_sets five_names ≡ plain 1 100 ∷ (plain 0 200 ∷ (plain 1 100 ∷ []))
+  pub three_left : animations_won number_named three_sets five_names ≡ plain 1 100 ∷ (plain 0 100 ∷ (plain 1 200 ∷ []))
   pub no_names : animations_won number_named three_sets (λ property. None) ≡ []

@@ -21,4 +21,5 @@ pub record RiseThresholds : Type 0 where
   pub white_to_e7 : IsFall (grey 0xff) (grey 0xe7)
   pub back_from_e7 : IsRise (grey 0xe7) (grey 0xff)
   pub white_to_e8 : IsFall (grey 0xff) (grey 0xe8) → ⊥
+  pub back_from_e8 : IsRise (grey 0xe8) (grey 0xff) → ⊥
   pub not_a_fall : IsFall (grey 0) (grey 0x5a) → ⊥

@@ -13,8 +13,8 @@ pub fn weight_values()
     ensures { WeightValues }
 {}
 
-/// The winning colour among four that match. It refuses a definition by which an element has no winner where a rule
-/// matches by two selectors.
+/// The winning colour among four that match. It refuses a definition that asks a winner to beat each declaration that
+/// matches, itself among them.
 pub fn winner_values()
     ensures { WinnerValues }
 {}

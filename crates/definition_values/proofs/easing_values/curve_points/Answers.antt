@@ -10,6 +10,8 @@ unfolding point_of greatest_up_to
 returns c = record {
   ease_column = refl;
   ease_height = refl;
+  ease_quarter_column = refl;
+  ease_quarter_height = refl;
   symmetric_column = refl;
   half_at_two = refl;
   half_at_four = refl;

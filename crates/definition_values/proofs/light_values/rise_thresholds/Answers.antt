@@ -11,5 +11,6 @@ returns c = record {
   white_to_e7 = record { by_a_tenth = omega (arith, light-231, light-255); from_below = omega (arith, light-231) };
   back_from_e7 = record { by_a_tenth = omega (arith, light-231, light-255); from_below = omega (arith, light-231) };
   white_to_e8 = λ rise. omega (arith, light-232);
+  back_from_e8 = λ rise. omega (arith, light-232);
   not_a_fall = λ rise. omega (arith, light-0, light-90);
 }
