@@ -1,1 +1,8 @@
 pub mod Classes
+pub mod HtmlClasses
+pub mod HtmlPieces
+pub mod HtmlReading
+pub mod HtmlRuns
+pub mod HtmlShown
+pub mod HtmlTags
+pub mod HtmlText

@@ -8,7 +8,19 @@
 
 mod classes;
 mod fault;
+mod html_attribute;
+mod html_pieces;
+mod html_runs;
+mod html_scan;
+mod html_stand;
+mod html_tags;
+#[cfg(test)]
+mod html_tests;
 mod token;
 
 pub use fault::ScanFault;
+pub use html_attribute::HtmlAttribute;
+pub use html_pieces::is_word;
+pub use html_scan::{HtmlWord, scan_html, scan_words};
+pub use html_tags::HtmlContent;
 pub use token::{CssKind, CssToken, HtmlKind, HtmlToken};

@@ -1,0 +1,12 @@
+// What may stand at a place of a page.
+
+/// What may stand at a place of a page.
+#[derive(Clone, Copy, Debug, PartialEq, Eq)]
+pub(crate) enum Stand {
+    /// A token other than raw text, white space or a comment.
+    Anything,
+    /// The raw text of a `title` or a `style`.
+    RawText,
+    /// The closing tag that ends raw text.
+    ItsEnd,
+}
