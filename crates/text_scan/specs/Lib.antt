@@ -6,3 +6,6 @@ pub mod HtmlRuns
 pub mod HtmlShown
 pub mod HtmlTags
 pub mod HtmlText
+pub mod CssGrammar
+pub mod CssReading
+pub mod CssTokens

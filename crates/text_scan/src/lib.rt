@@ -7,6 +7,7 @@
 #![tactic(auto)]
 
 mod classes;
+mod css_reading;
 mod fault;
 mod html_attribute;
 mod html_pieces;
