@@ -1,6 +1,5 @@
 -- A style text as tokens with gaps between them, and where it is none.
-use Rattle.std.specs.Prelude.{ℕ, ◌≡◌, ◌<◌, ◌-◌, ◌+◌, ◌⊎◌, List, [], ◌∷◌, ◌++◌, length, Result, Ok, Err}
-use Rattle.page_model.specs.declared.place.Place.{Place}
+use Rattle.std.specs.Prelude.{ℕ, ◌≡◌, ◌<◌, ◌-◌, ◌⊎◌, List, [], ◌∷◌, ◌++◌, length, Result, Ok, Err}
 use Rattle.text_scan.specs.declared.fault.ScanFault.{ScanFault}
 use Rattle.text_scan.specs.declared.fault.ScanFault.TheVariants as faults
 use Rattle.text_scan.specs.declared.token.CssKind.{CssKind}
@@ -27,7 +26,7 @@ pub data Begins (end : ℕ) : List ℕ → List CssToken → List ℕ → Type 0
   nothing : (bytes : List ℕ) → Begins end bytes [] bytes
   gap : (bytes after rest : List ℕ) (tokens : List CssToken) → Gap bytes after → Begins end after tokens rest → Begins end bytes tokens rest
   token : (kind : CssKind) (bytes after rest : List ℕ) (tokens : List CssToken) → IsLongest kind bytes after → Begins end after tokens rest
-    → Begins end bytes (token_between end kind bytes after ∷ tokens) rest
+      → Begins end bytes (token_between end kind bytes after ∷ tokens) rest
 
 -- these bytes are these tokens
 abbrev pub AreTokens : ℕ → List ℕ → List CssToken → Type 0

@@ -7,6 +7,7 @@
 #![tactic(auto)]
 
 mod classes;
+mod css;
 mod css_reading;
 mod fault;
 mod html_attribute;
@@ -19,9 +20,13 @@ mod html_tags;
 mod html_tests;
 mod token;
 
+pub use css::scan_css;
 pub use fault::ScanFault;
 pub use html_attribute::HtmlAttribute;
 pub use html_pieces::is_word;
 pub use html_scan::{HtmlWord, scan_html, scan_words};
 pub use html_tags::HtmlContent;
 pub use token::{CssKind, CssToken, HtmlKind, HtmlToken};
+
+#[cfg(test)]
+mod tests;
