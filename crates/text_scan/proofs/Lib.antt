@@ -1,10 +1,10 @@
-pub mod HtmlPieceLemmas
-pub mod HtmlRunLemmas
-pub mod HtmlTagLemmas
-pub mod HtmlTextLemmas
 pub mod CssReaches
 pub mod CssRuns
 pub mod CssScan
 pub mod CssShorter
 pub mod CssTakes
 pub mod CssUnique
+pub mod HtmlPieceLemmas
+pub mod HtmlRunLemmas
+pub mod HtmlTagLemmas
+pub mod HtmlTextLemmas

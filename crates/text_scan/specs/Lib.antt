@@ -1,4 +1,7 @@
 pub mod Classes
+pub mod CssGrammar
+pub mod CssReading
+pub mod CssTokens
 pub mod HtmlClasses
 pub mod HtmlPieces
 pub mod HtmlReading
@@ -6,6 +9,3 @@ pub mod HtmlRuns
 pub mod HtmlShown
 pub mod HtmlTags
 pub mod HtmlText
-pub mod CssGrammar
-pub mod CssReading
-pub mod CssTokens

@@ -18,6 +18,8 @@ mod html_stand;
 mod html_tags;
 #[cfg(test)]
 mod html_tests;
+#[cfg(test)]
+mod tests;
 mod token;
 
 pub use css::scan_css;
@@ -27,6 +29,3 @@ pub use html_pieces::is_word;
 pub use html_scan::{HtmlWord, scan_html, scan_words};
 pub use html_tags::HtmlContent;
 pub use token::{CssKind, CssToken, HtmlKind, HtmlToken};
-
-#[cfg(test)]
-mod tests;
