@@ -1,0 +1,6 @@
+pub mod Frac
+pub mod FracLaws
+pub mod IntLaws
+pub mod Rational
+pub mod Rounding
+mod RoundingLaws
