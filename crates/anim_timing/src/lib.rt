@@ -16,6 +16,8 @@ mod extent;
 mod iterations;
 mod phases;
 mod ratio;
+#[cfg(test)]
+mod tests;
 mod times;
 
 pub use directed::progress;

@@ -1,5 +1,5 @@
 -- Fractions as the code has them: exact results of the operations, and which point a fraction is.
-use Rattle.std.specs.Prelude.{ℕ, ℤ, pos, ◌≡◌, ◌<◌, ◌*◌, ◌+ℤ◌, ◌-ℤ◌, ◌*ℤ◌, ◌≤ℤ◌, ◌<ℤ◌, FitsSigned}
+use Rattle.std.specs.Prelude.{ℕ, ℤ, pos, ◌≡◌, ◌<◌, ◌*◌, ◌+ℤ◌, ◌-ℤ◌, ◌*ℤ◌, ◌≤ℤ◌, ◌<ℤ◌, nat_abs, FitsSigned}
 use Rattle.std.specs.Int.{int_div_euclid, w32, w128}
 use Rattle.page_model.specs.Fraction.{Fraction}
 use Rattle.fix_span.specs.declared.frac.Frac.{Frac}
@@ -8,6 +8,10 @@ use Rattle.fix_span.specs.Rational.{Rational}
 -- a fraction of the definitions
 abbrev pub frac_of : Fraction → Frac
 frac_of x = record { num = pos x.num; den = pos x.den }
+
+-- a fraction that isn't negative, as the definitions have it
+abbrev pub fraction_of : Frac → Fraction
+fraction_of x = record { num = nat_abs x.num; den = nat_abs x.den }
 
 -- a whole number
 abbrev pub whole_frac : ℤ → Frac
