@@ -1,0 +1,4 @@
+mod AroundLemmas
+mod IntervalLemmas
+mod StopLemmas
+mod WholeLemmas
