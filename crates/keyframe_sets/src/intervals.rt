@@ -84,7 +84,7 @@ fn second_stop(around: Around, own: Value, at: Share) -> Stop
 }
 
 // The interval of a property in a set, or none where the set doesn't name it.
-fn interval_in_set(
+pub fn interval_in_set(
     frames: &[Keyframe],
     prop: Prop,
     own: Value,

@@ -15,6 +15,8 @@ mod declaration;
 mod intervals;
 mod share;
 mod stops;
+#[cfg(test)]
+mod tests;
 pub mod types;
 
 pub use declaration::declared;
