@@ -1,0 +1,12 @@
+pub mod BandLemmas
+pub mod SumLemmas
+pub mod HeldLemmas
+pub mod StripLemmas
+pub mod SlideLemmas
+pub mod MostLemmas
+pub mod ScanLemmas
+pub mod FlaggedLemmas
+pub mod ColumnLemmas
+pub mod AreaLemmas
+pub mod RowScanLemmas
+pub mod MarkedLemmas

@@ -1,0 +1,96 @@
+// The greatest flagged area, and where it is.
+ghost use Rattle.std.specs.Prelude.{ℤ, pos, ◌≡◌, ◌*◌, ◌≤◌, ◌≤ℤ◌, length, nat_lt, if◌then◌else◌};
+ghost use Rattle.window_area.specs.Edges.{AreEdges, bands};
+ghost use Rattle.window_area.specs.FlaggedArea.{flagged_area, IsFirstColumn, IsFirstRow};
+ghost use Rattle.window_area.specs.Sliding.{IsBestRow};
+
+use crate::columns::{open_columns, slide_columns};
+use crate::strip::{Most, most_in_strip};
+use crate::window::Window;
+
+/// The size of WCAG 2.2's rectangle, in pixels.
+const WIDTH: u32 = 341;
+
+const HEIGHT: u32 = 256;
+
+/// The greatest number of flagged pixels that the rectangle holds, and the position of its upper
+/// left pixel.
+#[derive(Clone, Copy, Debug, PartialEq, Eq)]
+pub struct Best {
+    pub area: u32,
+    pub x: i32,
+    pub y: i32,
+}
+
+/// A row, and the most that a rectangle with its upper left pixel there holds.
+#[derive(Clone, Copy)]
+struct BestRow {
+    row: u32,
+    most: Most,
+}
+
+impl BestRow {
+    /// The better of the two, the earlier one where they are equal.
+    fn or_later(self, later: BestRow) -> BestRow
+        ensures { result ≡ (if nat_lt self.most.area later.most.area then later else self) }
+    {
+        if self.most.area < later.most.area {
+            later
+        } else {
+            self
+        }
+    }
+}
+
+/// The greatest number of flagged pixels in a rectangle of 341 by 256 pixels at any whole position,
+/// and the first position with it, by rows, from 0 on. The edges cut the viewport into cells, which
+/// are flagged row by row from the upper left; `work` is written over.
+pub fn greatest(xs: &[u16], ys: &[u16], flags: &[bool], work: &mut [u32]) -> Best
+    requires columns { AreEdges xs.now }
+    requires rows { AreEdges ys.now }
+    requires cells { length flags.now ≡ bands ys.now * bands xs.now }
+    requires work { length flags.now ≤ length work.old }
+
+    ensures most { (x y : ℤ) → flagged_area xs.now ys.now flags.now x y ≤ result.area }
+    ensures has { flagged_area xs.now ys.now flags.now result.x result.y ≡ result.area }
+
+    ensures right { pos 0 ≤ℤ result.x }
+    ensures down { pos 0 ≤ℤ result.y }
+    ensures first_row { IsFirstRow xs.now ys.now flags.now result.area result.y }
+    ensures first_column { IsFirstColumn xs.now ys.now flags.now result.area result.x result.y }
+{
+    let best = best_row(xs, ys, flags, work);
+    Best {
+        area: best.most.area,
+        x: best.most.place as i32,
+        y: best.row as i32,
+    }
+}
+
+/// The first row in which a rectangle holds most.
+fn best_row(xs: &[u16], ys: &[u16], flags: &[bool], work: &mut [u32]) -> BestRow
+    requires columns { AreEdges xs.now }
+    requires rows { AreEdges ys.now }
+    requires cells { length flags.now ≡ bands ys.now * bands xs.now }
+    requires work { length flags.now ≤ length work.old }
+    ensures best { IsBestRow xs.now ys.now flags.now result.row result.most.place result.most.area }
+    ensures row { result.row ≤ 4096 }
+    ensures column { result.most.place ≤ 4096 }
+{
+    let across = xs.len() - 1;
+    let mut window = Window::open(ys, HEIGHT);
+    open_columns(across, ys, flags, HEIGHT, work);
+    let mut best = BestRow {
+        row: 0,
+        most: most_in_strip(xs, work, WIDTH),
+    };
+    while let Some(stride) = window.stride(ys) {
+        slide_columns(across, ys, flags, &window, stride, work);
+        window = window.slid(ys, stride);
+        best = best.or_later(BestRow {
+            row: window.place,
+            most: most_in_strip(xs, work, WIDTH),
+        });
+    }
+    best
+}
