@@ -1,10 +1,10 @@
 -- The flagged area as what a window of columns holds, each column with what a window of rows holds.
-use Rattle.std.proofs.Common.{ℕ, Bool, true, false, List, ◌≡◌, ◌+◌, ◌*◌, ◌<◌, ◌≤◌, ◌⊎◌, ◌∙◌, cond, arith, ap, refl, get_or, length, sym, subst}
+use Rattle.std.proofs.Common.{ℕ, Bool, true, false, List, ◌≡◌, ◌+◌, ◌*◌, ◌<◌, ◌≤◌, ◌⊎◌, ◌∙◌, cond, arith, refl, sym, subst}
 use Rattle.std.specs.Prelude.{ℤ, pos, negsuc, ◌&&◌}
 use Rattle.page_model.specs.Flash.{sum_below}
 use Rattle.window_area.specs.declared.window.Window.{Window}
 use Rattle.window_area.specs.Edges.{AreEdges, band_of, bands, end_of}
-use Rattle.window_area.specs.FlaggedArea.{cell_flag, flagged_area, has_place, is_flagged, in_rectangle}
+use Rattle.window_area.specs.FlaggedArea.{flagged_area, has_place, is_flagged, in_rectangle}
 use Rattle.window_area.specs.Sliding.{AreColumns, AreWeights, IsStride, IsWindow, area_at, band_weight, column_area, held, only_if, strip_area}
 use Rattle.window_area.proofs.BandLemmas.{band_of-below}
 use Rattle.window_area.proofs.ColumnLemmas.{cell_value, column-bounded}

@@ -1,14 +1,14 @@
 -- The flagged pixels of the bands of columns, for a window of rows that grows and that slides.
-use Rattle.std.proofs.Common.{ℕ, Bool, true, false, List, ◌≡◌, ◌+◌, ◌-◌, ◌*◌, ◌<◌, ◌≤◌, ◌∙◌, get_or, length, cond, arith, ap, refl}
+use Rattle.std.proofs.Common.{ℕ, Bool, true, false, List, ◌≡◌, ◌+◌, ◌-◌, ◌*◌, ◌<◌, ◌≤◌, ◌∙◌, get_or, length, cond, arith, ap}
 use Rattle.std.specs.Prelude.{pos, min}
 use Rattle.std.proofs.Math.Nat.{mul-le-mul_right}
 use Rattle.window_area.specs.declared.window.Window.{Window}
-use Rattle.window_area.specs.Edges.{AreEdges, band_of, bands, end_of}
+use Rattle.window_area.specs.Edges.{AreEdges, band_of, end_of}
 use Rattle.window_area.specs.FlaggedArea.{cell_flag}
 use Rattle.window_area.specs.Sliding.{AddsWhereFlagged, AreColumns, IsRow, IsStride, IsWindow, TakesWhereFlagged, column_area, held, only_if}
 use Rattle.window_area.proofs.BandLemmas.{band_of-between, edge-le, edge-le-end}
 use Rattle.window_area.proofs.HeldLemmas.{held-bounded, held-more}
-use Rattle.window_area.proofs.SlideLemmas.{banded, stride-place, window-slides}
+use Rattle.window_area.proofs.SlideLemmas.{banded, window-slides}
 
 -- a cell counts where it is flagged
 abbrev pub cell_value : ℕ → List Bool → ℕ → ℕ → ℕ

@@ -1,13 +1,12 @@
 -- A window of rows that slides over the viewport: what each band of columns holds, and the best position up to there.
-use Rattle.std.proofs.Common.{ℕ, Bool, true, false, List, ◌≡◌, ◌+◌, ◌<◌, ◌≤◌, ◌∙◌, cond, arith, ap, refl, sym, subst}
-use Rattle.std.specs.Prelude.{ℤ, pos, negsuc, nat_lt, ◌≤ℤ◌}
+use Rattle.std.proofs.Common.{ℕ, Bool, true, false, List, ◌≡◌, ◌+◌, ◌≤◌, ◌∙◌, cond, arith, refl, sym, subst}
+use Rattle.std.specs.Prelude.{nat_lt}
 use Rattle.window_area.specs.declared.best.BestRow.{BestRow}
 use Rattle.window_area.specs.declared.strip.Most.{Most}
 use Rattle.window_area.specs.declared.window.Window.{Window}
 use Rattle.window_area.specs.Edges.{AreEdges, bands, end_of}
-use Rattle.window_area.specs.Sliding.{AreColumns, AreWeights, IsBestRow, IsFirstMost, IsStride, IsWindow, area_at, strip_area}
-use Rattle.window_area.proofs.AreaLemmas.{area-between, area-ended, columns-weights, strip_area-columns}
-use Rattle.window_area.proofs.HeldLemmas.{held-ended}
+use Rattle.window_area.specs.Sliding.{AreColumns, IsBestRow, IsFirstMost, IsStride, IsWindow, area_at, strip_area}
+use Rattle.window_area.proofs.AreaLemmas.{area-between, area-ended, strip_area-columns}
 use Rattle.window_area.proofs.MostLemmas.{IsBestUpTo, above-all, best-begins, best-next}
 
 -- the window has come to a row, the columns hold its flagged pixels, and the best position up to there is known

@@ -1,5 +1,5 @@
 -- A window that slides over a strip: what it holds at a place, and the most up to there.
-use Rattle.std.proofs.Common.{ℕ, List, ◌≡◌, ◌+◌, ◌-◌, ◌*◌, ◌<◌, ◌≤◌, ◌⊎◌, ◌∙◌, get_or, cond, arith, ap, sym, subst, refl}
+use Rattle.std.proofs.Common.{ℕ, List, ◌≡◌, ◌+◌, ◌*◌, ◌<◌, ◌≤◌, ◌⊎◌, ◌∙◌, get_or, cond, arith, ap, sym, subst, refl}
 use Rattle.std.specs.Prelude.{pos, nat_lt}
 use Rattle.std.proofs.Math.Nat.{mul-le-mul_right}
 use Rattle.window_area.specs.declared.strip.Most.{Most}
@@ -8,8 +8,8 @@ use Rattle.window_area.specs.Edges.{AreEdges, end_of}
 use Rattle.window_area.specs.Sliding.{AreWeights, IsFirstMost, IsStride, IsWindow, band_weight, strip_area}
 use Rattle.window_area.proofs.BandLemmas.{band_of-below}
 use Rattle.window_area.proofs.HeldLemmas.{held-bounded, held-ended}
-use Rattle.window_area.proofs.MostLemmas.{IsMostUpTo, most-begins, most-ends, most-next}
-use Rattle.window_area.proofs.SlideLemmas.{stride-place, window-between, window-slides}
+use Rattle.window_area.proofs.MostLemmas.{IsMostUpTo, most-ends, most-next}
+use Rattle.window_area.proofs.SlideLemmas.{window-between, window-slides}
 
 -- the window has come to a place, and the most up to there is known
 pub record IsScan (edges weights : List ℕ) (size : ℕ) (window : Window) (held : ℕ) (most : Most) : Type 0 where

@@ -1,12 +1,12 @@
 -- What a window holds over one stride, where the weight of a place is that of its band.
-use Rattle.std.proofs.Common.{ℕ, ◌≡◌, ◌+◌, ◌*◌, ◌<◌, ◌≤◌, ◌∙◌, ◌⊎◌, get_or, length, List, ap, arith, refl}
-use Rattle.std.specs.Prelude.{pos, nat_lt}
+use Rattle.std.proofs.Common.{ℕ, ◌≡◌, ◌+◌, ◌*◌, ◌<◌, ◌≤◌, ◌⊎◌, get_or, length, List, ap, arith}
+use Rattle.std.specs.Prelude.{pos}
 use Rattle.std.proofs.lemmas.Bool.{lt-ltb}
 use Rattle.window_area.specs.declared.window.Window.{Window}
 use Rattle.window_area.specs.Edges.{AreEdges, band_of, end_of}
-use Rattle.window_area.specs.Sliding.{IsStride, IsWindow, held, only_if}
-use Rattle.window_area.proofs.BandLemmas.{band_of-between, edge-le, edge-le-end}
-use Rattle.window_area.proofs.HeldLemmas.{held-bounded, held-slid, no_more_within, slid-by, within}
+use Rattle.window_area.specs.Sliding.{IsStride, IsWindow, held}
+use Rattle.window_area.proofs.BandLemmas.{band_of-between, edge-le-end}
+use Rattle.window_area.proofs.HeldLemmas.{held-slid, no_more_within, slid-by, within}
 
 -- the weight of a place is that of its band
 abbrev pub banded : List ℕ → (ℕ → ℕ) → ℕ → ℕ

@@ -2,7 +2,7 @@
 use Rattle.std.proofs.Common.{ℕ, ◌≡◌, ◌+◌, ◌-◌, ◌*◌, ◌<◌, ◌≤◌, ◌∙◌, get_or, length, List, ap, arith, refl}
 use Rattle.std.specs.Prelude.{pos, min}
 use Rattle.std.proofs.Math.Nat.{mul-le-mul_left}
-use Rattle.window_area.specs.Edges.{AreEdges, band_of, bands, end_of}
+use Rattle.window_area.specs.Edges.{AreEdges, end_of}
 use Rattle.window_area.specs.Sliding.{AreWeights, band_weight, held}
 use Rattle.window_area.proofs.BandLemmas.{band_of-between, edge-le, edge-le-end}
 use Rattle.window_area.proofs.HeldLemmas.{held-more}

@@ -1,5 +1,5 @@
 -- Edges cut a side of the viewport into bands of places: the first band lies from the first edge to the second, and so on.
-use Rattle.std.specs.Prelude.{ℕ, ◌≡◌, ◌+◌, ◌-◌, ◌≤◌, nat_le, List, length, slice_index, count_by}
+use Rattle.std.specs.Prelude.{ℕ, ◌≡◌, ◌-◌, ◌≤◌, nat_le, List, length, slice_index, count_by}
 use Rattle.std.specs.List.Sorted.{IsStrictlyIncreasing}
 
 -- where the side ends

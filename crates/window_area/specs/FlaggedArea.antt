@@ -1,6 +1,6 @@
 -- How many flagged pixels the 341 by 256 rectangle of WCAG 2.2 holds at a position. Edges cut the viewport into cells, and a
 -- pixel is flagged where its cell is. The position may be any whole one: the rectangle may lie past the viewport's ends.
-use Rattle.std.specs.Prelude.{ℕ, ℤ, pos, Bool, false, ◌≡◌, ◌+◌, ◌*◌, ◌≤◌, ◌≤ℤ◌, ◌+ℤ◌, ◌&&◌, List, slice_index_or}
+use Rattle.std.specs.Prelude.{ℕ, ℤ, pos, Bool, false, ◌≡◌, ◌+◌, ◌*◌, ◌≤ℤ◌, ◌+ℤ◌, ◌&&◌, List, slice_index_or}
 use Rattle.std.specs.Int.Signed.{le_z, lt_z}
 use Rattle.page_model.specs.Flash.{area}
 use Rattle.window_area.specs.Edges.{bands, band_of, end_of}

@@ -31,7 +31,7 @@ fn best_of(xs: &[u16], ys: &[u16], cells: &[u8]) -> Option<Best> {
         return None;
     }
     let many = cells.len();
-    if many > CELLS || many != (ys.len() - 1) * (xs.len() - 1) {
+    if many > CELLS || (ys.len() - 1).checked_mul(xs.len() - 1)? != many {
         return None;
     }
     let mut flags = [false; CELLS];

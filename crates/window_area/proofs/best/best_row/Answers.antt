@@ -1,4 +1,4 @@
-use Rattle.std.proofs.Common.{◌+◌, ◌<◌, ◌≤◌, arith, refl}
+use Rattle.std.proofs.Common.{◌+◌, arith, refl}
 use Rattle.window_area.proofs.AreaLemmas.{columns-weights}
 use Rattle.window_area.proofs.RowScanLemmas.{row_scan-begins, row_scan-ends, row_scan-next}
 use Rattle.window_area.proofs.SlideLemmas.{stride-place, window-place}

@@ -1,4 +1,4 @@
-use Rattle.std.proofs.Common.{◌+◌, ◌<◌, ◌≤◌, length, arith}
+use Rattle.std.proofs.Common.{arith}
 use Rattle.window_area.proofs.ColumnLemmas.{columns-all, columns-bounded, columns-more, columns-none}
 use Rattle.window_area.proofs.columns.open_columns.Goals as goal
 

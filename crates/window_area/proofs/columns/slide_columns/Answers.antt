@@ -1,4 +1,4 @@
-use Rattle.std.proofs.Common.{◌+◌, ◌<◌, ◌≤◌, length, arith}
+use Rattle.std.proofs.Common.{arith}
 use Rattle.window_area.proofs.ColumnLemmas.{column-bounded, columns-room, columns-slid}
 use Rattle.window_area.proofs.SlideLemmas.{stride-place}
 use Rattle.window_area.proofs.columns.slide_columns.Goals as goal

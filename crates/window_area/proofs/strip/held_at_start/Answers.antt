@@ -1,4 +1,4 @@
-use Rattle.std.proofs.Common.{◌+◌, ◌-◌, ◌*◌, ◌<◌, ◌≤◌, length, get_or, arith}
+use Rattle.std.proofs.Common.{◌+◌, ◌*◌, get_or, arith}
 use Rattle.window_area.proofs.StripLemmas.{IsHeldSoFar, held_so_far-all, held_so_far-fits, held_so_far-more, held_so_far-none}
 use Rattle.window_area.proofs.strip.held_at_start.Goals as goal
 

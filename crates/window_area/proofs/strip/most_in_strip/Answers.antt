@@ -1,8 +1,6 @@
-use Rattle.std.proofs.Common.{◌≡◌, ◌+◌, ◌<◌, ◌≤◌, arith, ap, sym}
-use Rattle.window_area.specs.Edges.{end_of}
-use Rattle.window_area.proofs.ScanLemmas.{IsScan, scan-bounded, scan-ends, scan-loss, scan-next}
+use Rattle.std.proofs.Common.{arith}
+use Rattle.window_area.proofs.ScanLemmas.{scan-bounded, scan-ends, scan-loss, scan-next}
 use Rattle.window_area.proofs.SlideLemmas.{stride-place, window-place}
-use Rattle.window_area.proofs.MostLemmas.{most-begins}
 use Rattle.window_area.proofs.strip.most_in_strip.Goals as goal
 
 pub held_after-held-requires-clause-held : goal.held_after-held-requires-clause-held

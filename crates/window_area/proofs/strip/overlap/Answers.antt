@@ -1,4 +1,4 @@
-use Rattle.std.proofs.Common.{◌+◌, ◌≤◌, arith}
+use Rattle.std.proofs.Common.{◌+◌, arith}
 use Rattle.window_area.proofs.BandLemmas.{edge-le-end}
 use Rattle.window_area.proofs.strip.overlap.Goals as goal
 

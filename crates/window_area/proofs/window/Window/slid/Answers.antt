@@ -1,4 +1,4 @@
-use Rattle.std.proofs.Common.{◌+◌, ◌≤◌, ◌<◌, arith}
+use Rattle.std.proofs.Common.{◌+◌, ◌<◌, arith}
 use Rattle.window_area.specs.Edges.{end_of}
 use Rattle.window_area.proofs.BandLemmas.{edge-le-end, in_band-inside}
 use Rattle.window_area.proofs.window.Window.slid.Goals as goal
