@@ -1,5 +1,5 @@
 -- Bounds of products.
-use Rattle.std.proofs.Common.{ℕ, ℤ, pos, neg_ℤ, ◌≤◌, ◌*◌, ◌*ℤ◌, ◌≤ℤ◌, ◌≡◌, arith}
+use Rattle.std.proofs.Common.{ℕ, ℤ, pos, neg_ℤ, ◌≤◌, ◌*ℤ◌, ◌≤ℤ◌, ◌≡◌, arith}
 use Rattle.std.proofs.lemmas.Int.{ints}
 use Rattle.std.proofs.Math.IntN.{*ℤ_comm}
 use Rattle.fix_span.specs.IntLaws.{times_le}

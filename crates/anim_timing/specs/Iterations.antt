@@ -1,5 +1,4 @@
 -- The code's numbers of iterations as the definitions have them.
-use Rattle.std.specs.Prelude.{ℕ}
 use Rattle.page_model.specs.Fraction.{Fraction}
 use Rattle.page_model.specs.Progress as definition
 use Rattle.anim_timing.specs.declared.ratio.Ratio.{Ratio}

@@ -1,5 +1,5 @@
 -- The numbers of an animation's timing are in their limits: times in ms, counts in thousandths.
-use Rattle.std.specs.Prelude.{ℕ, ℤ, pos, neg_ℤ, ◌≤◌}
+use Rattle.std.specs.Prelude.{pos, neg_ℤ, ◌≤◌}
 use Rattle.page_model.specs.declared.animation.Anim.{Anim}
 use Rattle.page_model.specs.ValidScene.{IsBetween, IsCount}
 

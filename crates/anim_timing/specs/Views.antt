@@ -1,7 +1,6 @@
 -- The code's own types as the definitions have them.
-use Rattle.std.specs.Prelude.{ℕ, ℤ, ◌+ℤ◌, ◌≤ℤ◌, pos, neg_ℤ, FitsSigned}
+use Rattle.std.specs.Prelude.{ℤ, ◌+ℤ◌, ◌≤ℤ◌, pos, FitsSigned}
 use Rattle.std.specs.Int.{w64}
-use Rattle.page_model.specs.Fraction.{Fraction}
 use Rattle.page_model.specs.Progress as definition
 use Rattle.anim_timing.specs.declared.extent.Extent.{Extent}
 use Rattle.anim_timing.specs.declared.extent.Extent.TheVariants.{Finite, Endless}

@@ -15,6 +15,8 @@ mod encloses;
 mod frac;
 mod loose;
 mod rounding;
+#[cfg(test)]
+mod tests;
 
 pub use encloses::{Encloses, mix};
 pub use frac::Frac;

@@ -1,5 +1,5 @@
 -- One more stop: it is the last that is reached, or the first ahead where there was none.
-use Rattle.std.proofs.Common.{ℕ, Bool, true, false, cond, not, Option, Some, None, List, [], ◌∷◌, ◌++◌, ◌≡◌, ◌<◌, ◌+◌, length, option_map, unwrap_or, refl, sym, ap, ◌∙◌, filter, filter_map, take, get_or, append-nil, suc, add-one}
+use Rattle.std.proofs.Common.{ℕ, Bool, true, false, not, Option, Some, None, List, [], ◌∷◌, ◌++◌, ◌≡◌, ◌<◌, ◌+◌, length, option_map, unwrap_or, refl, sym, ap, ◌∙◌, filter, take, get_or, append-nil, add-one}
 use Rattle.std.specs.List.{cons_option}
 use Rattle.std.proofs.lemmas.List.Elements.{filter-append, filter_map-append}
 use Rattle.std.proofs.Math.Seq.{take-suc}

@@ -1,5 +1,5 @@
 -- The interval of a property that a set names, from the stops next to the progress.
-use Rattle.std.proofs.Common.{ℕ, Bool, true, false, cond, not, ◌||◌, Option, Some, None, List, [], ◌∷◌, ◌≡◌, ◌≤◌, length, nat_lt, is_some, option_map, unwrap_or, refl, sym, ap, ◌∙◌, filter, All, inl, inr, slice_get, suc, arith}
+use Rattle.std.proofs.Common.{ℕ, Bool, true, false, ◌||◌, Option, Some, None, List, [], ◌∷◌, ◌≡◌, length, nat_lt, is_some, option_map, unwrap_or, refl, sym, ap, ◌∙◌, filter, inl, inr, suc, arith}
 use Rattle.std.proofs.lemmas.Bool.{cases_Bool}
 use Rattle.std.proofs.lemmas.Bool.Decides.{nat_tests}
 use Rattle.page_model.specs.declared.easing.Easing.{Easing}

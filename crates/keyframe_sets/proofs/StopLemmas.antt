@@ -1,5 +1,5 @@
 -- The stops of a property among keyframes, and the first and the last of a list.
-use Rattle.std.proofs.Common.{ℕ, Bool, true, false, cond, not, ◌||◌, Option, Some, None, List, [], ◌∷◌, ◌++◌, ◌≡◌, ◌<◌, ◌-◌, ◌+◌, length, nat_lt, is_some, option_map, unwrap_or, refl, sym, ap, ◌∙◌, arith, slice_get, filter, filter_map, suc}
+use Rattle.std.proofs.Common.{Bool, ◌||◌, Option, Some, None, List, [], ◌∷◌, ◌++◌, ◌≡◌, ◌-◌, length, nat_lt, is_some, unwrap_or, refl, ◌∙◌, arith, filter_map, suc}
 use Rattle.std.specs.List.{list_any, cons_option}
 use Rattle.std.proofs.lemmas.Bool.Decides.{nat_tests}
 use Rattle.page_model.specs.Keyframes.{first_of, last_of}

@@ -1,5 +1,5 @@
 -- The interval among the stops with the element's own value added at 0% and 100%, told by the stops alone.
-use Rattle.std.proofs.Common.{ℕ, Bool, true, false, cond, not, ◌||◌, ◌&&◌, Option, Some, None, List, [], ◌∷◌, ◌++◌, ◌≡◌, ◌==◌, ◌<◌, ◌+◌, ◌*◌, length, nat_lt, nat_le, option_map, option_and_then, unwrap_or, refl, sym, ap, ◌∙◌, arith, filter, append-nil, inl, inr}
+use Rattle.std.proofs.Common.{Bool, true, false, cond, Some, List, [], ◌∷◌, ◌++◌, ◌≡◌, ◌==◌, option_map, option_and_then, unwrap_or, refl, ap, ◌∙◌, arith, filter, append-nil, inl, inr}
 use Rattle.std.specs.List.{list_any}
 use Rattle.std.proofs.lemmas.Bool.{cases_Bool}
 use Rattle.std.proofs.lemmas.Bool.Decides.{nat_tests}
@@ -10,7 +10,7 @@ use Rattle.page_model.specs.Fraction.{Fraction}
 use Rattle.page_model.specs.Keyframes.{Stop, first_of, last_of, has_stop_at, added_at, whole, is_reached, interval_between, interval_in}
 use Rattle.keyframe_sets.specs.Around.{is_ahead}
 use Rattle.keyframe_sets.specs.Ends.{start, finish}
-use Rattle.keyframe_sets.proofs.StopLemmas.{last_of-cons, last_of-append, first_of-append}
+use Rattle.keyframe_sets.proofs.StopLemmas.{last_of-cons, first_of-append}
 
 -- a stop at 0% is reached, and one at 100% never
 is_reached-zero : (at : Fraction) (stop : Stop) → (stop.offset == 0) ≡ true → is_reached at stop ≡ true

@@ -1,5 +1,5 @@
 -- The stops next to a progress: the last that is reached and the first that isn't.
-use Rattle.std.specs.Prelude.{ℕ, List, Option, Bool, true, false, not, ◌≡◌, ◌≤◌, filter, option_map, IfSome}
+use Rattle.std.specs.Prelude.{List, Bool, true, false, not, ◌≡◌, ◌≤◌, filter, option_map, IfSome}
 use Rattle.page_model.specs.Fraction.{Fraction}
 use Rattle.page_model.specs.Keyframes as definition
 use Rattle.keyframe_sets.specs.declared.around.Around.{Around}

@@ -1,5 +1,4 @@
 -- The code's own types as the definitions have them, and the definition's interval as callers have it.
-use Rattle.std.specs.Prelude.{ℕ}
 use Rattle.page_model.specs.Fraction.{Fraction}
 use Rattle.page_model.specs.Keyframes as definition
 use Rattle.fix_span.specs.Frac.{frac_of}

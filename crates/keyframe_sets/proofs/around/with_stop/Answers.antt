@@ -1,6 +1,5 @@
 -- The new stop is the last that is reached, or the first ahead where there was none.
 use Rattle.std.proofs.Common.{◌∙◌, sym, subst, Some, ◌++◌, ◌∷◌, []}
-use Rattle.keyframe_sets.specs.declared.around.Around.{Around}
 use Rattle.keyframe_sets.specs.declared.stops.Stop.{Stop}
 use Rattle.keyframe_sets.specs.Around.{IsAround}
 use Rattle.keyframe_sets.specs.Views.{stop_as, share_as}
