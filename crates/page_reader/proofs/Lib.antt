@@ -1,0 +1,4 @@
+pub mod AttributeLemmas
+pub mod GrammarLemmas
+pub mod ElementLemmas
+pub mod PageLemmas

@@ -1,0 +1,5 @@
+pub mod PageElements
+pub mod PageGrammar
+pub mod PageReading
+pub mod PageSymbols
+pub mod PageText

@@ -1,0 +1,32 @@
+// What the tokens of a page stand for.
+use page_model::Place;
+
+/// The tag of a box.
+#[derive(Clone, Copy, Debug, PartialEq, Eq)]
+pub(crate) enum BoxTag {
+    Div,
+    Span,
+}
+
+/// What a token of a page stands for in its grammar.
+#[derive(Clone, Copy, Debug)]
+pub(crate) enum Symbol {
+    Doctype,
+    OpenHtml,
+    OpenHead,
+    OpenMeta,
+    OpenTitle,
+    OpenStyle,
+    /// Raw text: whether it has no `&`, and where it stands.
+    RawText(bool, Place),
+    OpenBody,
+    OpenBox(BoxTag),
+    CloseHtml,
+    CloseHead,
+    CloseTitle,
+    CloseStyle,
+    CloseBody,
+    CloseBox(BoxTag),
+    /// A token that stands in no page.
+    Other,
+}
