@@ -55,9 +55,9 @@ completes AtDoctype = (Doctype ∷ OpenHtml ∷ OpenHead ∷ head_end, nowhere, 
 completes AtHtml = (OpenHtml ∷ OpenHead ∷ head_end, nowhere, refl)
 completes AtHead = (OpenHead ∷ head_end, nowhere, refl)
 completes (AtItem seen) = (head_end, sheet_seen seen, refl)
-completes (AtTitleText seen) = (RawText true nowhere ∷ CloseTitle ∷ head_end, sheet_seen seen, refl)
+completes (AtTitleText seen) = (RawText nowhere ∷ CloseTitle ∷ head_end, sheet_seen seen, refl)
 completes (AtTitleEnd seen) = (CloseTitle ∷ head_end, sheet_seen seen, refl)
-completes (AtStyleText seen) = (RawText true nowhere ∷ CloseStyle ∷ head_end, nowhere, refl)
+completes (AtStyleText seen) = (RawText nowhere ∷ CloseStyle ∷ head_end, nowhere, refl)
 completes (AtStyleEnd seen) = (CloseStyle ∷ head_end, sheet_seen seen, refl)
 completes (AtBody sheet) = (OpenBody ∷ page_end, sheet, refl)
 completes (AtBox sheet) = (page_end, sheet, refl)
@@ -171,8 +171,8 @@ items_rest [] titled sheet boxes titles styles = boxes_rest boxes (unwrap_or she
 items_rest (meta ∷ items) titled sheet boxes titles styles = items_rest items titled sheet boxes titles styles
 items_rest (title place ∷ items) true sheet boxes titles styles = absurd (omega arith)
 items_rest (title place ∷ items) false sheet boxes titles styles = items_rest items true sheet boxes (omega arith) styles
-items_rest (style clean place ∷ items) titled None boxes titles styles = items_rest items titled (Some place) boxes titles (omega arith)
-items_rest (style clean place ∷ items) titled (Some other) boxes titles styles = absurd (omega arith)
+items_rest (style place ∷ items) titled None boxes titles styles = items_rest items titled (Some place) boxes titles (omega arith)
+items_rest (style place ∷ items) titled (Some other) boxes titles styles = absurd (omega arith)
 
 record Items (titled : Bool) (sheet : Option Place) (symbols : List Symbol) (p : Place) : Type 0 where
   items : List HeadItem
@@ -206,21 +206,21 @@ with_meta titled sheet symbols p found = record {
   sheet_is = found.sheet_is;
 }
 
-with_title : (place : Place) (sheet : Option Place) (symbols : List Symbol) (p : Place) → Items true sheet symbols p → Items false sheet (OpenTitle ∷ RawText true place ∷ CloseTitle ∷ symbols) p
+with_title : (place : Place) (sheet : Option Place) (symbols : List Symbol) (p : Place) → Items true sheet symbols p → Items false sheet (OpenTitle ∷ RawText place ∷ CloseTitle ∷ symbols) p
 with_title place sheet symbols p found = record {
   items = title place ∷ found.items;
   boxes = found.boxes;
-  spelled = ap (λ ss. OpenTitle ∷ RawText true place ∷ CloseTitle ∷ ss) found.spelled;
+  spelled = ap (λ ss. OpenTitle ∷ RawText place ∷ CloseTitle ∷ ss) found.spelled;
   titles = let h : 1 + title_count found.items ≤ 1 = found.titles in omega arith;
   styles = found.styles;
   sheet_is = found.sheet_is;
 }
 
-with_style : (clean : Bool) (place : Place) (titled : Bool) (symbols : List Symbol) (p : Place) → Items titled (Some place) symbols p → Items titled None (OpenStyle ∷ RawText clean place ∷ CloseStyle ∷ symbols) p
-with_style clean place titled symbols p found = record {
-  items = style clean place ∷ found.items;
+with_style : (place : Place) (titled : Bool) (symbols : List Symbol) (p : Place) → Items titled (Some place) symbols p → Items titled None (OpenStyle ∷ RawText place ∷ CloseStyle ∷ symbols) p
+with_style place titled symbols p found = record {
+  items = style place ∷ found.items;
   boxes = found.boxes;
-  spelled = ap (λ ss. OpenStyle ∷ RawText clean place ∷ CloseStyle ∷ ss) found.spelled;
+  spelled = ap (λ ss. OpenStyle ∷ RawText place ∷ CloseStyle ∷ ss) found.spelled;
   titles = found.titles;
   styles = let h : 1 + style_count found.items ≤ 1 = found.styles in omega arith;
   sheet_is = found.sheet_is;
@@ -228,8 +228,8 @@ with_style clean place titled symbols p found = record {
 
 rest_items : (titled : Bool) (sheet : Option Place) (symbols : List Symbol) (p : Place) → Rest (AtItem (seen_as titled sheet)) symbols p → Items titled sheet symbols p
 rest_items titled sheet (OpenMeta ∷ ss) p rest = with_meta titled sheet ss p (rest_items titled sheet ss p rest)
-rest_items false sheet (OpenTitle ∷ RawText true place ∷ CloseTitle ∷ ss) p rest = with_title place sheet ss p (rest_items true sheet ss p rest)
-rest_items titled None (OpenStyle ∷ RawText clean place ∷ CloseStyle ∷ ss) p rest = with_style clean place titled ss p (rest_items titled (Some place) ss p rest)
+rest_items false sheet (OpenTitle ∷ RawText place ∷ CloseTitle ∷ ss) p rest = with_title place sheet ss p (rest_items true sheet ss p rest)
+rest_items titled None (OpenStyle ∷ RawText place ∷ CloseStyle ∷ ss) p rest = with_style place titled ss p (rest_items titled (Some place) ss p rest)
 rest_items titled sheet (CloseHead ∷ OpenBody ∷ ss) p rest = no_items titled sheet ss p (rest_boxes ss p (unwrap_or sheet nowhere) rest)
 rest_items _ _ _ p rest = elim rest [ ]
 

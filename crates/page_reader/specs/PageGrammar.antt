@@ -1,6 +1,6 @@
 -- The grammar of a page: the tokens of a page are a function of its parts, and the place of a refusal is where the longest front that
 -- begins some page ends.
-use Rattle.std.specs.Prelude.{◌≡◌, ℕ, suc, zero, ◌+◌, ◌≤◌, Bool, true, List, [], ◌∷◌, ◌++◌, length, take, map, Option, Some, None}
+use Rattle.std.specs.Prelude.{◌≡◌, ℕ, suc, zero, ◌+◌, ◌≤◌, List, [], ◌∷◌, ◌++◌, length, take, map, Option, Some, None}
 use Rattle.page_model.specs.declared.place.Place.{Place}
 use Rattle.text_scan.specs.HtmlText.{Word}
 use Rattle.page_reader.specs.PageSymbols.{symbol_of}
@@ -8,32 +8,32 @@ use Rattle.page_reader.specs.declared.symbol.Symbol.{Symbol}
 use Rattle.page_reader.specs.declared.symbol.Symbol.TheVariants.{Doctype, OpenHtml, OpenHead, OpenMeta, OpenTitle, OpenStyle, RawText, OpenBody, OpenBox, CloseHtml, CloseHead, CloseTitle, CloseStyle, CloseBody, CloseBox, Other}
 use Rattle.page_reader.specs.declared.symbol.BoxTag.{BoxTag}
 
--- what may stand in the head: a `meta`, a title with the place of its text, a style with the place of its text (and whether that has no `&`)
+-- what may stand in the head: a `meta`, a title with the place of its text, a style with the place of its text
 pub data HeadItem : Type 0 where
   meta : HeadItem
   title : Place → HeadItem
-  style : Bool → Place → HeadItem
+  style : Place → HeadItem
 
 -- the tokens of the items of the head, before others
 abbrev pub item_symbols : List HeadItem → List Symbol → List Symbol
 item_symbols [] more = more
 item_symbols (meta ∷ items) more = OpenMeta ∷ item_symbols items more
-item_symbols (title place ∷ items) more = OpenTitle ∷ RawText true place ∷ CloseTitle ∷ item_symbols items more
-item_symbols (style clean place ∷ items) more = OpenStyle ∷ RawText clean place ∷ CloseStyle ∷ item_symbols items more
+item_symbols (title place ∷ items) more = OpenTitle ∷ RawText place ∷ CloseTitle ∷ item_symbols items more
+item_symbols (style place ∷ items) more = OpenStyle ∷ RawText place ∷ CloseStyle ∷ item_symbols items more
 
 -- how many of them are titles
 abbrev pub title_count : List HeadItem → ℕ
 title_count [] = 0
 title_count (meta ∷ items) = title_count items
 title_count (title place ∷ items) = suc (title_count items)
-title_count (style clean place ∷ items) = title_count items
+title_count (style place ∷ items) = title_count items
 
 -- how many are styles
 abbrev pub style_count : List HeadItem → ℕ
 style_count [] = 0
 style_count (meta ∷ items) = style_count items
 style_count (title place ∷ items) = style_count items
-style_count (style clean place ∷ items) = suc (style_count items)
+style_count (style place ∷ items) = suc (style_count items)
 
 -- the place of a style element that is missing
 abbrev pub nowhere : Place
@@ -44,7 +44,7 @@ abbrev pub sheet_of : List HeadItem → Place
 sheet_of [] = nowhere
 sheet_of (meta ∷ items) = sheet_of items
 sheet_of (title place ∷ items) = sheet_of items
-sheet_of (style clean place ∷ items) = place
+sheet_of (style place ∷ items) = place
 
 -- the tokens of the boxes, before others
 abbrev pub box_symbols : List BoxTag → List Symbol → List Symbol

@@ -44,7 +44,7 @@ after_item seen CloseHead = Some (AtBody (sheet_seen seen))
 after_item seen _ = None
 
 abbrev pub after_title_text : Seen → Symbol → Option Stage
-after_title_text seen (RawText clean place) = if clean then Some (AtTitleEnd seen) else None
+after_title_text seen (RawText place) = Some (AtTitleEnd seen)
 after_title_text seen _ = None
 
 abbrev pub after_title_end : Seen → Symbol → Option Stage
@@ -52,7 +52,7 @@ after_title_end seen CloseTitle = Some (AtItem seen)
 after_title_end seen _ = None
 
 abbrev pub after_style_text : Seen → Symbol → Option Stage
-after_style_text seen (RawText clean place) = Some (AtStyleEnd (record { title = seen.title; sheet = Some place }))
+after_style_text seen (RawText place) = Some (AtStyleEnd (record { title = seen.title; sheet = Some place }))
 after_style_text seen _ = None
 
 abbrev pub after_style_end : Seen → Symbol → Option Stage

@@ -97,16 +97,12 @@ closing_symbol DivBox = CloseBox Div
 closing_symbol SpanBox = CloseBox Span
 closing_symbol Unknown = Other
 
--- raw text without `&`, as a title's has to be
-abbrev pub has_no_ampersand : List ℕ → Bool
-has_no_ampersand text = list_all (λ byte. not (byte == 38)) text
-
 -- what a token of this content at this place stands for
 abbrev pub symbol_at : Place → Content → Symbol
 symbol_at place doctype = Doctype
 symbol_at place (opening name attributes slash) = opening_symbol (tag_named name) attributes slash
 symbol_at place (closing name) = closing_symbol (tag_named name)
-symbol_at place (raw text) = RawText (has_no_ampersand text) place
+symbol_at place (raw text) = RawText place
 
 -- what a token stands for
 abbrev pub symbol_of : Word → Symbol

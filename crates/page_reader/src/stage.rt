@@ -95,9 +95,9 @@ pub(crate) fn next_stage(stage: Stage, symbol: Symbol) -> Option<Stage>
             sheet: None,
         })),
         (Stage::AtItem(seen), symbol) => after_item(seen, symbol),
-        (Stage::AtTitleText(seen), Symbol::RawText(true, _)) => Some(Stage::AtTitleEnd(seen)),
+        (Stage::AtTitleText(seen), Symbol::RawText(_)) => Some(Stage::AtTitleEnd(seen)),
         (Stage::AtTitleEnd(seen), Symbol::CloseTitle) => Some(Stage::AtItem(seen)),
-        (Stage::AtStyleText(seen), Symbol::RawText(_, place)) => {
+        (Stage::AtStyleText(seen), Symbol::RawText(place)) => {
             Some(Stage::AtStyleEnd(Seen {
                 title: seen.title,
                 sheet: Some(place),

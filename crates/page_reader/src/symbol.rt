@@ -17,8 +17,8 @@ pub(crate) enum Symbol {
     OpenMeta,
     OpenTitle,
     OpenStyle,
-    /// Raw text: whether it has no `&`, and where it stands.
-    RawText(bool, Place),
+    /// Raw text, and where it stands.
+    RawText(Place),
     OpenBody,
     OpenBox(BoxTag),
     CloseHtml,

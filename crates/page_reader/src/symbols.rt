@@ -1,7 +1,7 @@
 // What a token stands for.
 ghost use Rattle.std.specs.Prelude.{◌≡◌, map};
 ghost use Rattle.text_scan.specs.HtmlShown.{shown_attribute, shown_word};
-ghost use Rattle.page_reader.specs.PageSymbols.{closing_symbol, has_no_ampersand, opening_symbol, symbol_of, where_good};
+ghost use Rattle.page_reader.specs.PageSymbols.{closing_symbol, opening_symbol, symbol_of, where_good};
 
 use crate::attributes::{are_box_attributes, are_html_attributes, are_meta_attributes};
 use crate::symbol::{BoxTag, Symbol};
@@ -54,13 +54,6 @@ fn closing_symbol(tag: TagName) -> Symbol
     }
 }
 
-/// Whether the text holds no `&`.
-fn has_no_ampersand(text: &[u8]) -> bool
-    ensures { result ≡ has_no_ampersand text.now }
-{
-    text.iter().all(|byte| *byte != b'&')
-}
-
 /// What a token stands for.
 pub(crate) fn symbol_of(word: &HtmlWord<'_>) -> Symbol
     ensures { result ≡ symbol_of (shown_word word.now) }
@@ -74,6 +67,6 @@ pub(crate) fn symbol_of(word: &HtmlWord<'_>) -> Symbol
             word.content.slash,
         ),
         HtmlKind::Closing => closing_symbol(tag_named(name)),
-        HtmlKind::Raw => Symbol::RawText(has_no_ampersand(name), word.place),
+        HtmlKind::Raw => Symbol::RawText(word.place),
     }
 }

@@ -10,10 +10,10 @@ use Rattle.std.proofs.lemmas.Slice.Eq.{bytes_eq-Decides}
 use Rattle.text_scan.specs.Classes.{is_white, is_letter}
 use Rattle.text_scan.specs.HtmlRuns.{IsRun, MaybeWhite, IsWhite, IsNamed, IsAnyCase, begins_with_letter, is_attribute_byte, is_tag_byte, is_raw_byte}
 use Rattle.text_scan.specs.HtmlTags.{Attribute, IsTail, IsOpening, IsClosing}
-use Rattle.text_scan.specs.HtmlPieces.{Content, doctype, opening, closing, raw, Piece, between, token, IsPiece, IsDoctype, IsComment, IsWhiteByte, IsRaw, has_no_dashes, begins_as_end}
-use Rattle.text_scan.specs.HtmlReading.{run_of, after_run, byte_at, white_at, name_at, any_case_at, spaced_byte_at, tail_at, opening_at, closing_at, doctype_at, after_dashes, comment_text_at, comment_at, as_token, as_between, declaration_at, markup_at, open_piece_at, raw_at, end_tag_at, piece_at}
+use Rattle.text_scan.specs.HtmlPieces.{Content, doctype, opening, closing, raw, Piece, between, token, IsPiece, IsDoctype, IsComment, IsWhiteByte, IsRaw, IsTitleText, has_no_dashes, begins_as_end, has_no_ampersand}
+use Rattle.text_scan.specs.HtmlReading.{run_of, after_run, byte_at, white_at, name_at, any_case_at, spaced_byte_at, tail_at, opening_at, closing_at, doctype_at, after_dashes, comment_text_at, comment_at, as_token, as_between, declaration_at, markup_at, open_piece_at, raw_at, title_at, end_tag_at, piece_at}
 use Rattle.text_scan.specs.declared.html_stand.Stand.{Stand}
-use Rattle.text_scan.specs.declared.html_stand.Stand.TheVariants.{Anything, RawText, ItsEnd}
+use Rattle.text_scan.specs.declared.html_stand.Stand.TheVariants.{Anything, TitleText, StyleText, ItsEnd}
 use Rattle.text_scan.proofs.HtmlRunLemmas.{bound, tested, unsome, some_pair, Stops, run_is, run_again, byte_takes, byte_again, white_is, white_gone, white_takes, white_again, name_takes, name_again, name_stops_white, spaced_takes, spaced_again, any_case_takes, any_case_again, white_stops}
 use Rattle.text_scan.proofs.HtmlTagLemmas.{tail_is, tail_again}
 
@@ -257,11 +257,11 @@ end_tag_takes bytes content rest e =
     subst (λ b. IsPiece ItsEnd b (token content) rest) (sym whole) (closing_takes two.0 content rest two.2)
 
 -- raw text
-raw_takes : (bytes : List ℕ) (content : Content) (rest : List ℕ) → raw_at bytes ≡ Some (content, rest) → IsPiece RawText bytes (token content) rest
+raw_takes : (bytes : List ℕ) (content : Content) (rest : List ℕ) → raw_at bytes ≡ Some (content, rest) → IsPiece StyleText bytes (token content) rest
 unfolding raw_at
 raw_takes bytes content rest e =
     let sign = bound _ (byte_at 60 (after_run is_raw_byte bytes)) (content, rest) e in
-    let P : Content × List ℕ → Type 0 = λ c. IsPiece RawText bytes (token c.0) c.1 in
+    let P : Content × List ℕ → Type 0 = λ c. IsPiece StyleText bytes (token c.0) c.1 in
     subst P (unsome (raw (run_of is_raw_byte bytes), after_run is_raw_byte bytes) (content, rest) sign.2) (record {
       after = sign.0;
       run = run_is is_raw_byte bytes;
@@ -275,6 +275,33 @@ raw_again bytes text rest is =
     let read = run_again is_raw_byte bytes text rest is.run stops in
     let sign = byte_again 60 is.after in
     rw (read.1, read.0, is.ends, sign) refl
+
+-- raw text of a title
+title_text : (bytes : List ℕ) (content : Content) (rest : List ℕ) → IsPiece StyleText bytes (token content) rest → content ≡ raw (run_of is_raw_byte bytes) → has_no_ampersand (run_of is_raw_byte bytes) ≡ true → IsPiece TitleText bytes (token content) rest
+title_text bytes doctype rest is same good = elim is [ ]
+title_text bytes (opening name attributes slash) rest is same good = elim is [ ]
+title_text bytes (closing name) rest is same good = elim is [ ]
+title_text bytes (raw text) rest is same good = let run : text ≡ run_of is_raw_byte bytes = cc in record { raw = is; no_ampersand = ap has_no_ampersand run ∙ good }
+
+raw_content : (bytes : List ℕ) (content : Content) (rest : List ℕ) → raw_at bytes ≡ Some (content, rest) → content ≡ raw (run_of is_raw_byte bytes)
+unfolding raw_at
+raw_content bytes content rest e =
+    let sign = bound _ (byte_at 60 (after_run is_raw_byte bytes)) (content, rest) e in
+    sym (some_pair (raw (run_of is_raw_byte bytes)) content (after_run is_raw_byte bytes) rest sign.2).0
+
+title_takes : (bytes : List ℕ) (content : Content) (rest : List ℕ) → title_at bytes ≡ Some (content, rest) → IsPiece TitleText bytes (token content) rest
+unfolding title_at
+title_takes bytes content rest e =
+    let parts = tested (has_no_ampersand (run_of is_raw_byte bytes)) (raw_at bytes) (content, rest) e in
+    title_text bytes content rest (raw_takes bytes content rest parts.1) (raw_content bytes content rest parts.1) parts.0
+
+title_again : (bytes text rest : List ℕ) → IsTitleText bytes text rest → title_at bytes ≡ Some (raw text, rest)
+unfolding title_at
+title_again bytes text rest is =
+    let stops : Stops is_raw_byte rest = subst (Stops is_raw_byte) (sym is.raw.ends) refl in
+    let read = run_again is_raw_byte bytes text rest is.raw.run stops in
+    let good : has_no_ampersand (run_of is_raw_byte bytes) ≡ true = ap has_no_ampersand read.0 ∙ is.no_ampersand in
+    rw good (raw_again bytes text rest is.raw)
 
 -- a token that was read
 as_token_some : (P : Piece → List ℕ → Type 0) (o : Option (Content × List ℕ)) (piece : Piece) (rest : List ℕ) → ◌≡◌ {A = Option (Piece × List ℕ)} (as_token o) (Some (piece, rest)) → ((c : Content) (r : List ℕ) → ◌≡◌ {A = Option (Content × List ℕ)} o (Some (c, r)) → P (token c) r) → P piece rest
@@ -336,7 +363,8 @@ white_again_piece bytes rest is = let white : is_white is.byte ≡ true = is.whi
 -- a piece that is read stands there
 pub piece_takes : (stand : Stand) (bytes : List ℕ) (piece : Piece) (rest : List ℕ) → piece_at stand bytes ≡ Some (piece, rest) → IsPiece stand bytes piece rest
 piece_takes Anything bytes piece rest e = open_piece_takes bytes piece rest e
-piece_takes RawText bytes piece rest e = as_token_some (λ p r. IsPiece RawText bytes p r) (raw_at bytes) piece rest e (λ c r at. raw_takes bytes c r at)
+piece_takes TitleText bytes piece rest e = as_token_some (λ p r. IsPiece TitleText bytes p r) (title_at bytes) piece rest e (λ c r at. title_takes bytes c r at)
+piece_takes StyleText bytes piece rest e = as_token_some (λ p r. IsPiece StyleText bytes p r) (raw_at bytes) piece rest e (λ c r at. raw_takes bytes c r at)
 piece_takes ItsEnd bytes piece rest e = as_token_some (λ p r. IsPiece ItsEnd bytes p r) (end_tag_at bytes) piece rest e (λ c r at. end_tag_takes bytes c r at)
 
 -- a piece that stands there is read
@@ -347,11 +375,16 @@ piece_again Anything bytes (token doctype) rest is = doctype_again bytes rest is
 piece_again Anything bytes (token (opening name attributes slash)) rest is = opening_again bytes name attributes slash rest is
 piece_again Anything bytes (token (closing name)) rest is = closing_again bytes name rest is
 piece_again Anything bytes (token (raw text)) rest is = elim is [ ]
-piece_again RawText bytes between rest is = elim is [ ]
-piece_again RawText bytes (token doctype) rest is = elim is [ ]
-piece_again RawText bytes (token (opening name attributes slash)) rest is = elim is [ ]
-piece_again RawText bytes (token (closing name)) rest is = elim is [ ]
-piece_again RawText bytes (token (raw text)) rest is = ap as_token (raw_again bytes text rest is)
+piece_again TitleText bytes between rest is = elim is [ ]
+piece_again TitleText bytes (token doctype) rest is = elim is [ ]
+piece_again TitleText bytes (token (opening name attributes slash)) rest is = elim is [ ]
+piece_again TitleText bytes (token (closing name)) rest is = elim is [ ]
+piece_again TitleText bytes (token (raw text)) rest is = ap as_token (title_again bytes text rest is)
+piece_again StyleText bytes between rest is = elim is [ ]
+piece_again StyleText bytes (token doctype) rest is = elim is [ ]
+piece_again StyleText bytes (token (opening name attributes slash)) rest is = elim is [ ]
+piece_again StyleText bytes (token (closing name)) rest is = elim is [ ]
+piece_again StyleText bytes (token (raw text)) rest is = ap as_token (raw_again bytes text rest is)
 piece_again ItsEnd bytes between rest is = elim is [ ]
 piece_again ItsEnd bytes (token doctype) rest is = elim is [ ]
 piece_again ItsEnd bytes (token (opening name attributes slash)) rest is = elim is [ ]

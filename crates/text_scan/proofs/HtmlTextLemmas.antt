@@ -10,7 +10,7 @@ use Rattle.text_scan.specs.HtmlPieces.{Content, doctype, opening, closing, raw, 
 use Rattle.text_scan.specs.HtmlReading.{open_piece_at, piece_at}
 use Rattle.text_scan.specs.HtmlText.{Step, IsPath, rest_after, stand_after, Word, place_between, with_token, words_of, IsText, IsStuck, AreWordsOf, IsBadAt}
 use Rattle.text_scan.specs.declared.html_stand.Stand.{Stand}
-use Rattle.text_scan.specs.declared.html_stand.Stand.TheVariants.{Anything, RawText, ItsEnd}
+use Rattle.text_scan.specs.declared.html_stand.Stand.TheVariants.{Anything, TitleText, StyleText, ItsEnd}
 use Rattle.text_scan.proofs.HtmlRunLemmas.{unsome, run_shorter, maybe_white_shorter, white_shorter}
 use Rattle.text_scan.proofs.HtmlTagLemmas.{attribute_shorter}
 use Rattle.text_scan.proofs.HtmlPieceLemmas.{piece_takes, piece_again}
@@ -140,12 +140,14 @@ read_stuck text words stand bytes place so none unfinished place_is =
 -- the work that is left: twice the bytes, and raw text may be empty
 abbrev pub work : Stand → List ℕ → ℕ
 work Anything bytes = 2 * length bytes
-work RawText bytes = suc (2 * length bytes)
+work TitleText bytes = suc (2 * length bytes)
+work StyleText bytes = suc (2 * length bytes)
 work ItsEnd bytes = 2 * length bytes
 
 work_below : (stand : Stand) (bytes : List ℕ) → work stand bytes ≤ suc (2 * length bytes)
 work_below Anything bytes = omega arith
-work_below RawText bytes = omega arith
+work_below TitleText bytes = omega arith
+work_below StyleText bytes = omega arith
 work_below ItsEnd bytes = omega arith
 
 tail_shorter : (attributes : List Attribute) (bytes : List ℕ) (slash : Bool) (rest : List ℕ) → IsTail bytes attributes slash rest → length rest < length bytes
@@ -180,11 +182,16 @@ pub work_less : (stand : Stand) (bytes : List ℕ) (piece : Piece) (rest : List 
 work_less stand bytes piece rest at = less stand piece (piece_takes stand bytes piece rest at) where
   less : (s : Stand) (p : Piece) → IsPiece s bytes p rest → work (after_piece s p) rest < work s bytes
   less Anything p is = omega (arith, work_below (after_piece Anything p) rest, piece_shorter bytes p rest is)
-  less RawText between is = elim is [ ]
-  less RawText (token doctype) is = elim is [ ]
-  less RawText (token (opening name attributes slash)) is = elim is [ ]
-  less RawText (token (closing name)) is = elim is [ ]
-  less RawText (token (raw text)) is = omega (arith, run_shorter is_raw_byte bytes text rest is.run)
+  less TitleText between is = elim is [ ]
+  less TitleText (token doctype) is = elim is [ ]
+  less TitleText (token (opening name attributes slash)) is = elim is [ ]
+  less TitleText (token (closing name)) is = elim is [ ]
+  less TitleText (token (raw text)) is = omega (arith, run_shorter is_raw_byte bytes text rest is.raw.run)
+  less StyleText between is = elim is [ ]
+  less StyleText (token doctype) is = elim is [ ]
+  less StyleText (token (opening name attributes slash)) is = elim is [ ]
+  less StyleText (token (closing name)) is = elim is [ ]
+  less StyleText (token (raw text)) is = omega (arith, run_shorter is_raw_byte bytes text rest is.run)
   less ItsEnd between is = elim is [ ]
   less ItsEnd (token doctype) is = elim is [ ]
   less ItsEnd (token (opening name attributes slash)) is = elim is [ ]

@@ -1,11 +1,12 @@
 -- The pieces of a page: tokens with their content, and the white space and comments between them.
 use Rattle.std.specs.Prelude.{◌≡◌, ℕ, Bool, true, false, not, ◌==◌, ◌&&◌, ◌||◌, ◌⊎◌, List, [], ◌∷◌, ◌++◌, map, codes, IsTrue, if◌then◌else◌}
+use Rattle.std.specs.List.{list_all}
 use Rattle.std.specs.Str.{str_eq_ignore_ascii_case}
 use Rattle.text_scan.specs.Classes.{is_white}
 use Rattle.text_scan.specs.HtmlRuns.{IsRun, MaybeWhite, IsWhite, IsAnyCase, is_raw_byte}
 use Rattle.text_scan.specs.HtmlTags.{Attribute, IsOpening, IsClosing}
 use Rattle.text_scan.specs.declared.html_stand.Stand.{Stand}
-use Rattle.text_scan.specs.declared.html_stand.Stand.TheVariants.{Anything, RawText, ItsEnd}
+use Rattle.text_scan.specs.declared.html_stand.Stand.TheVariants.{Anything, TitleText, StyleText, ItsEnd}
 
 -- what a token says
 pub data Content : Type 0 where
@@ -62,6 +63,15 @@ pub record IsRaw (bytes text rest : List ℕ) : Type 0 where
   pub run : IsRun is_raw_byte bytes text rest
   pub ends : rest ≡ 60 ∷ after
 
+-- text without `&`
+abbrev pub has_no_ampersand : List ℕ → Bool
+has_no_ampersand text = list_all (λ byte. not (byte == 38)) text
+
+-- raw text of a title, which holds no `&`
+pub record IsTitleText (bytes text rest : List ℕ) : Type 0 where
+  pub raw : IsRaw bytes text rest
+  pub no_ampersand : IsTrue (has_no_ampersand text)
+
 -- this piece stands in front of the rest, where this may stand: raw text stands right behind an opening `title` or `style`,
 -- and right behind raw text a closing tag, so that no comment hides there what a browser reads as text
 abbrev pub IsPiece : Stand → List ℕ → Piece → List ℕ → Type 0
@@ -70,25 +80,33 @@ IsPiece Anything bytes (token doctype) rest = IsDoctype bytes rest
 IsPiece Anything bytes (token (opening name attributes slash)) rest = IsOpening bytes name attributes slash rest
 IsPiece Anything bytes (token (closing name)) rest = IsClosing bytes name rest
 IsPiece Anything bytes (token (raw text)) rest = ⊥
-IsPiece RawText bytes between rest = ⊥
-IsPiece RawText bytes (token doctype) rest = ⊥
-IsPiece RawText bytes (token (opening name attributes slash)) rest = ⊥
-IsPiece RawText bytes (token (closing name)) rest = ⊥
-IsPiece RawText bytes (token (raw text)) rest = IsRaw bytes text rest
+IsPiece TitleText bytes between rest = ⊥
+IsPiece TitleText bytes (token doctype) rest = ⊥
+IsPiece TitleText bytes (token (opening name attributes slash)) rest = ⊥
+IsPiece TitleText bytes (token (closing name)) rest = ⊥
+IsPiece TitleText bytes (token (raw text)) rest = IsTitleText bytes text rest
+IsPiece StyleText bytes between rest = ⊥
+IsPiece StyleText bytes (token doctype) rest = ⊥
+IsPiece StyleText bytes (token (opening name attributes slash)) rest = ⊥
+IsPiece StyleText bytes (token (closing name)) rest = ⊥
+IsPiece StyleText bytes (token (raw text)) rest = IsRaw bytes text rest
 IsPiece ItsEnd bytes between rest = ⊥
 IsPiece ItsEnd bytes (token doctype) rest = ⊥
 IsPiece ItsEnd bytes (token (opening name attributes slash)) rest = ⊥
 IsPiece ItsEnd bytes (token (closing name)) rest = IsClosing bytes name rest
 IsPiece ItsEnd bytes (token (raw text)) rest = ⊥
 
--- the tag's text is raw: a `title` or a `style`, in any case
-abbrev pub holds_raw : List ℕ → Bool
-holds_raw name = str_eq_ignore_ascii_case name (codes "title") || str_eq_ignore_ascii_case name (codes "style")
+-- what may stand behind an opening tag of this name: the text of a `title` or a `style`, in any case, is raw
+abbrev pub after_opening : List ℕ → Stand
+after_opening name =
+    if str_eq_ignore_ascii_case name (codes "title") then TitleText
+    else (if str_eq_ignore_ascii_case name (codes "style") then StyleText
+    else Anything)
 
 -- what may stand behind a token
 abbrev pub after_token : Content → Stand
 after_token doctype = Anything
-after_token (opening name attributes slash) = if holds_raw name then RawText else Anything
+after_token (opening name attributes slash) = after_opening name
 after_token (closing name) = Anything
 after_token (raw text) = ItsEnd
 

@@ -5,9 +5,9 @@ use Rattle.std.specs.Option.{option_map}
 use Rattle.text_scan.specs.Classes.{is_white}
 use Rattle.text_scan.specs.HtmlRuns.{begins_with_letter, is_tag_byte, is_attribute_byte, is_quote, is_value_byte, is_raw_byte}
 use Rattle.text_scan.specs.HtmlTags.{Attribute}
-use Rattle.text_scan.specs.HtmlPieces.{Content, doctype, opening, closing, raw, Piece, between, token, begins_as_end}
+use Rattle.text_scan.specs.HtmlPieces.{Content, doctype, opening, closing, raw, Piece, between, token, begins_as_end, has_no_ampersand}
 use Rattle.text_scan.specs.declared.html_stand.Stand.{Stand}
-use Rattle.text_scan.specs.declared.html_stand.Stand.TheVariants.{Anything, RawText, ItsEnd}
+use Rattle.text_scan.specs.declared.html_stand.Stand.TheVariants.{Anything, TitleText, StyleText, ItsEnd}
 
 infixl 10 ◌>>=◌
 abbrev pub ◌>>=◌ : {A B : Type 0} → Option A → (A → Option B) → Option B
@@ -169,6 +169,10 @@ raw_at bytes = do
   _ ← byte_at 60 (after_run is_raw_byte bytes)
   Some (raw (run_of is_raw_byte bytes), after_run is_raw_byte bytes)
 
+-- raw text of a title
+unfoldable pub title_at : List ℕ → Option (Content × List ℕ)
+title_at bytes = if has_no_ampersand (run_of is_raw_byte bytes) then raw_at bytes else None
+
 -- a closing tag
 unfoldable pub end_tag_at : List ℕ → Option (Content × List ℕ)
 end_tag_at bytes = do
@@ -179,5 +183,6 @@ end_tag_at bytes = do
 -- a piece that may stand here, and what is left
 abbrev pub piece_at : Stand → List ℕ → Option (Piece × List ℕ)
 piece_at Anything bytes = open_piece_at bytes
-piece_at RawText bytes = as_token (raw_at bytes)
+piece_at TitleText bytes = as_token (title_at bytes)
+piece_at StyleText bytes = as_token (raw_at bytes)
 piece_at ItsEnd bytes = as_token (end_tag_at bytes)

@@ -2,8 +2,8 @@
 ghost use Rattle.std.specs.Prelude.{◌≡◌, IfOk};
 ghost use Rattle.std.specs.Option.{option_copied, option_map};
 ghost use Rattle.std.specs.Str.{str_eq_ignore_ascii_case};
-ghost use Rattle.text_scan.specs.HtmlPieces.{after_token, begins_as_end, holds_raw};
-ghost use Rattle.text_scan.specs.HtmlReading.{after_dashes, as_token, comment_at, comment_text_at, declaration_at, doctype_at, end_tag_at, markup_at, open_piece_at, piece_at, raw_at};
+ghost use Rattle.text_scan.specs.HtmlPieces.{after_opening, after_token, begins_as_end, has_no_ampersand};
+ghost use Rattle.text_scan.specs.HtmlReading.{after_dashes, as_token, comment_at, comment_text_at, declaration_at, doctype_at, end_tag_at, markup_at, open_piece_at, piece_at, raw_at, title_at};
 ghost use Rattle.text_scan.specs.HtmlShown.{content_now, piece_now, shown_content};
 
 use crate::classes::is_white;
@@ -157,6 +157,26 @@ fn raw_text<'a>(alloc: Global, bytes: &'a [u8]) -> Option<(HtmlContent<'a>, &'a 
     Some((plain(alloc, HtmlKind::Raw, text), rest))
 }
 
+/// Whether the text holds no `&`.
+fn has_no_ampersand(text: &[u8]) -> bool
+    ensures { result ≡ has_no_ampersand text.now }
+{
+    text.iter().all(|byte| *byte != b'&')
+}
+
+/// The raw text of a title.
+#[tactic(auto, unfolding(crate::specs::HtmlReading::title_at))]
+fn title_text<'a>(alloc: Global, bytes: &'a [u8]) -> Option<(HtmlContent<'a>, &'a [u8])>
+    ensures { option_map content_now result ≡ title_at bytes.now }
+{
+    let (text, _) = run(HtmlClass::RawText, bytes);
+    if has_no_ampersand(text) {
+        raw_text(alloc, bytes)
+    } else {
+        None
+    }
+}
+
 /// A closing tag.
 #[tactic(auto, unfolding(crate::specs::HtmlReading::end_tag_at))]
 fn end_tag<'a>(alloc: Global, bytes: &'a [u8]) -> Option<(HtmlContent<'a>, &'a [u8])>
@@ -177,7 +197,8 @@ pub(crate) fn first_piece<'a>(
 {
     match stand {
         Stand::Anything => open_piece(alloc, bytes),
-        Stand::RawText => Ok(token(raw_text(alloc, bytes))),
+        Stand::TitleText => Ok(token(title_text(alloc, bytes))),
+        Stand::StyleText => Ok(token(raw_text(alloc, bytes))),
         Stand::ItsEnd => Ok(token(end_tag(alloc, bytes))),
     }
 }
@@ -190,11 +211,17 @@ pub fn is_word(name: &[u8], word: &[u8]) -> bool
     name.eq_ignore_ascii_case(word)
 }
 
-/// Whether the text of a tag of this name is raw.
-fn holds_raw(name: &[u8]) -> bool
-    ensures { result ≡ holds_raw name.now }
+/// What may stand behind an opening tag of this name.
+fn after_opening(name: &[u8]) -> Stand
+    ensures { result ≡ after_opening name.now }
 {
-    is_word(name, b"title") || is_word(name, b"style")
+    if is_word(name, b"title") {
+        return Stand::TitleText;
+    }
+    if is_word(name, b"style") {
+        return Stand::StyleText;
+    }
+    Stand::Anything
 }
 
 /// What may stand behind a token.
@@ -202,13 +229,7 @@ pub(crate) fn after_token(content: &HtmlContent<'_>) -> Stand
     ensures { result ≡ after_token (shown_content content.now) }
 {
     match content.kind {
-        HtmlKind::Opening => {
-            if holds_raw(content.name) {
-                Stand::RawText
-            } else {
-                Stand::Anything
-            }
-        }
+        HtmlKind::Opening => after_opening(content.name),
         HtmlKind::Raw => Stand::ItsEnd,
         HtmlKind::Doctype | HtmlKind::Closing => Stand::Anything,
     }

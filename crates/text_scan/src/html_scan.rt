@@ -36,7 +36,7 @@ fn is_complete(stand: Stand, bytes: &[u8]) -> bool
 {
     match stand {
         Stand::Anything => bytes.is_empty(),
-        Stand::RawText | Stand::ItsEnd => false,
+        Stand::TitleText | Stand::StyleText | Stand::ItsEnd => false,
     }
 }
 

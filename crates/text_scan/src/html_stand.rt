@@ -5,8 +5,10 @@
 pub(crate) enum Stand {
     /// A token other than raw text, white space or a comment.
     Anything,
-    /// The raw text of a `title` or a `style`.
-    RawText,
+    /// The raw text of a `title`.
+    TitleText,
+    /// The raw text of a `style`.
+    StyleText,
     /// The closing tag that ends raw text.
     ItsEnd,
 }
