@@ -51,7 +51,7 @@ one_page text page other is also =
     same_page page other (also.elements ∙ ap (elements_of (length text)) same ∙ sym is.elements) (one_sheet (map symbol_of is.words) page.sheet other.sheet is.grammar grammar)
 
 -- and not both a page and none
-page_is_not_bad : (text : List ℕ) (page : PageText) (place : ℕ) → Spells text page → IsBadAt text place → ⊥
+pub page_is_not_bad : (text : List ℕ) (page : PageText) (place : ℕ) → Spells text page → IsBadAt text place → ⊥
 page_is_not_bad text page place is (inl bad) = not_valid text place is.utf8 bad
 page_is_not_bad text page place is (inr (inl bad)) = apart text place is.no_control bad.first
 page_is_not_bad text page place is (inr (inr (inl bad))) = stuck_is_no_text text place is.words bad.stuck is.tokens
