@@ -1,0 +1,7 @@
+pub mod Colours
+pub mod Easings
+pub mod Keywords
+pub mod NumeralViews
+pub mod Numerals
+pub mod Quantities
+pub mod Words

@@ -1,0 +1,22 @@
+//! Values.
+#![tactic(auto)]
+
+mod digits;
+mod fault;
+mod keyword;
+mod numeral;
+mod quantity;
+mod tables;
+pub mod types;
+mod word;
+
+pub use fault::ValueFault;
+pub use numeral::{amount, is_zero, lone_number, number_at, whole_of};
+pub use tables::{
+    colour_named, direction_named, easing_named, fill_named, jump_named, play_named, property,
+    reserved, visibility_named,
+};
+pub use word::{
+    behind_close, behind_comma, function_text_at, ident_at, is_lone, lone_hash, lone_ident,
+    lone_number_text, number_text_at,
+};
