@@ -12,6 +12,7 @@ mod word;
 
 pub use fault::ValueFault;
 pub use numeral::{amount, is_zero, lone_number, number_at, whole_of};
+pub use quantity::{count, duration, is_nothing, length, opacity, percentage, time, z_index};
 pub use tables::{
     colour_named, direction_named, easing_named, fill_named, jump_named, play_named, property,
     reserved, visibility_named,
