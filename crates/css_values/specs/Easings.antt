@@ -13,15 +13,18 @@ use Rattle.css_values.specs.Numerals.{Numeral, amount, number_at}
 use Rattle.css_values.specs.Quantities.{signed_int}
 use Rattle.css_values.specs.Colours.{function_at, whole_at, ended}
 
--- `)`, or a comma, a word for the jump and `)`
-unfoldable pub jump_at : List Word → Option Jump
-jump_at words =
-    or_else (option_and_then (ended End) (behind is_close words))
-    (option_and_then (λ rest.
+-- a comma, a word for the jump and `)`
+unfoldable pub jump_word : List Word → Option Jump
+jump_word words =
+    option_and_then (λ rest.
     option_and_then (λ word.
     option_and_then (λ jump.
     option_and_then (ended jump) (behind is_close word.1))
-    (lookup jump_words word.0)) (front_of when_ident rest)) (behind is_comma words))
+    (lookup jump_words word.0)) (front_of when_ident rest)) (behind is_comma words)
+
+-- `)`, or that
+unfoldable pub jump_at : List Word → Option Jump
+jump_at words = or_else (option_and_then (ended End) (behind is_close words)) (jump_word words)
 
 -- `steps(`, a whole number, and the jump
 unfoldable pub steps_at : List Word → Option (ℕ × Jump)

@@ -1,4 +1,5 @@
 pub mod Colours
+pub mod EasingViews
 pub mod Easings
 pub mod Keywords
 pub mod NumeralViews

@@ -1,7 +1,9 @@
 //! Values.
 #![tactic(auto)]
 
+mod colours;
 mod digits;
+mod easings;
 mod fault;
 mod keyword;
 mod numeral;
@@ -10,13 +12,11 @@ mod tables;
 pub mod types;
 mod word;
 
+pub use colours::colour;
+pub use easings::easing;
 pub use fault::ValueFault;
-pub use numeral::{amount, is_zero, lone_number, number_at, whole_of};
 pub use quantity::{count, duration, is_nothing, length, opacity, percentage, time, z_index};
-pub use tables::{
-    colour_named, direction_named, easing_named, fill_named, jump_named, play_named, property,
-    reserved, visibility_named,
-};
+pub use tables::{direction_named, fill_named, play_named, property, reserved, visibility_named};
 pub use word::{
     behind_close, behind_comma, function_text_at, ident_at, is_lone, lone_hash, lone_ident,
     lone_number_text, number_text_at,
