@@ -1,2 +1,4 @@
 pub mod DigitLemmas
+pub mod ListLemmas
+pub mod PieceLemmas
 pub mod PointLemmas

@@ -2,6 +2,8 @@ pub mod Colours
 pub mod EasingViews
 pub mod Easings
 pub mod Keywords
+pub mod ListReading
+pub mod Lists
 pub mod NumeralViews
 pub mod Numerals
 pub mod Quantities

@@ -6,6 +6,7 @@ mod digits;
 mod easings;
 mod fault;
 mod keyword;
+mod lists;
 mod numeral;
 mod quantity;
 mod tables;
@@ -15,6 +16,7 @@ mod word;
 pub use colours::colour;
 pub use easings::easing;
 pub use fault::ValueFault;
+pub use lists::{Item, list_of};
 pub use quantity::{count, duration, is_nothing, length, opacity, percentage, time, z_index};
 pub use tables::{direction_named, fill_named, play_named, property, reserved, visibility_named};
 pub use word::{
