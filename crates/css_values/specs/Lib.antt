@@ -4,7 +4,10 @@ pub mod Easings
 pub mod Keywords
 pub mod ListReading
 pub mod Lists
+pub mod Names
 pub mod NumeralViews
 pub mod Numerals
 pub mod Quantities
+pub mod ShorthandGrammar
+pub mod ShorthandViews
 pub mod Words
