@@ -1,4 +1,5 @@
 pub mod DigitLemmas
+pub mod GroupLemmas
 pub mod ListLemmas
 pub mod PieceLemmas
 pub mod PointLemmas

@@ -10,4 +10,5 @@ pub mod Numerals
 pub mod Quantities
 pub mod ShorthandGrammar
 pub mod ShorthandViews
+pub mod ValueGrammar
 pub mod Words

@@ -46,7 +46,7 @@ pub record Slots : Type 0 where
   pub over : Bool
 
 -- nothing is taken
-unfoldable pub free : Slots
+abbrev pub free : Slots
 free = record { duration = None; delay = None; easing = None; count = None; direction = None; fill = None; paused = None; name = None; over = false }
 
 -- a value, a number past its limit, or no value takes a slot, or doesn't
@@ -55,6 +55,11 @@ taken into past (Ok value) = Some (into value)
 taken into past (Err OverLimit) = Some past
 taken into past (Err BadValue) = None
 taken into past (Err NoMemory) = None
+
+-- a keyword takes a slot, or doesn't
+abbrev pub chosen : {A : Type 0} → (A → Slots) → Result A ValueFault → Option Slots
+chosen into (Ok value) = Some (into value)
+chosen into (Err fault) = None
 
 -- the first time is the duration, the second the delay
 unfoldable pub take_time : Slots → List Word → Option Slots
@@ -77,19 +82,19 @@ take_count slots word =
 unfoldable pub take_direction : Slots → List Word → Option Slots
 take_direction slots word =
     if is_some slots.direction then None else
-    taken (λ direction. record slots { direction = Some direction }) slots (keyword_of direction_words word)
+    chosen (λ direction. record slots { direction = Some direction }) (keyword_of direction_words word)
 
 unfoldable pub take_fill : Slots → List Word → Option Slots
 take_fill slots word =
-    if is_some slots.fill then None else taken (λ fill. record slots { fill = Some fill }) slots (keyword_of fill_words word)
+    if is_some slots.fill then None else chosen (λ fill. record slots { fill = Some fill }) (keyword_of fill_words word)
 
 unfoldable pub take_play : Slots → List Word → Option Slots
 take_play slots word =
-    if is_some slots.paused then None else taken (λ paused. record slots { paused = Some paused }) slots (keyword_of play_words word)
+    if is_some slots.paused then None else chosen (λ paused. record slots { paused = Some paused }) (keyword_of play_words word)
 
 unfoldable pub take_name : Slots → List Word → Option Slots
 take_name slots word =
-    if is_some slots.name then None else taken (λ name. record slots { name = Some name }) slots (name_of word)
+    if is_some slots.name then None else chosen (λ name. record slots { name = Some name }) (name_of word)
 
 -- a word is a time
 abbrev pub is_value : {A : Type 0} → Result A ValueFault → Bool

@@ -2,6 +2,7 @@
 #![tactic(auto)]
 
 mod colours;
+mod columns;
 mod digits;
 mod easings;
 mod fault;

@@ -1,5 +1,5 @@
 // The shorthand `animation`: CSS Animations Level 1, as a profile.
-ghost use Rattle.std.specs.Prelude.{◌≡◌, ◌<◌, ◌≤◌, false, true, length, option_map};
+ghost use Rattle.std.specs.Prelude.{◌≡◌, ◌∷◌, ◌<◌, ◌≤◌, false, true, length, option_copied, option_map, unwrap_or};
 ghost use Rattle.css_values.specs.Lists.{Gives};
 ghost use Rattle.css_values.specs.Quantities.{time_of};
 ghost use Rattle.css_values.specs.ShorthandGrammar.{ends_word, free, is_value, item_of, settled, take_all, take_count};
@@ -43,6 +43,27 @@ pub struct Slots<'a> {
     pub name: Option<Option<&'a [u8]>>,
     pub over: bool,
 }
+
+/// The initial easing, `ease`.
+const EASE: Easing = Easing::Cubic {
+    x1: 250,
+    y1: 100,
+    x2: 250,
+    y2: 1000,
+};
+
+/// Slots of which none is taken.
+const FREE: Slots<'static> = Slots {
+    duration: None,
+    delay: None,
+    easing: None,
+    count: None,
+    direction: None,
+    fill: None,
+    paused: None,
+    name: None,
+    over: false,
+};
 
 /// A time is the duration, and a second one the delay.
 #[tactic(auto, unfolding(crate::specs::ShorthandGrammar::take_time))]
@@ -137,7 +158,6 @@ fn take_direction<'a>(slots: Slots<'a>, text: &'a [u8], word: &[CssToken]) -> Op
             direction: Some(direction),
             ..slots
         }),
-        Err(ValueFault::OverLimit) => Some(slots),
         Err(_) => None,
     }
 }
@@ -155,7 +175,6 @@ fn take_fill<'a>(slots: Slots<'a>, text: &'a [u8], word: &[CssToken]) -> Option<
             fill: Some(fill),
             ..slots
         }),
-        Err(ValueFault::OverLimit) => Some(slots),
         Err(_) => None,
     }
 }
@@ -173,7 +192,6 @@ fn take_play<'a>(slots: Slots<'a>, text: &'a [u8], word: &[CssToken]) -> Option<
             paused: Some(paused),
             ..slots
         }),
-        Err(ValueFault::OverLimit) => Some(slots),
         Err(_) => None,
     }
 }
@@ -191,7 +209,165 @@ fn take_name<'a>(slots: Slots<'a>, text: &'a [u8], word: &[CssToken]) -> Option<
             name: Some(name),
             ..slots
         }),
-        Err(ValueFault::OverLimit) => Some(slots),
         Err(_) => None,
+    }
+}
+
+/// A keyword, a count or an easing takes its slot where it is free; any other word, and one whose slot is taken, is the name.
+#[tactic(auto, unfolding(crate::specs::ShorthandGrammar::take_keyword))]
+fn take_keyword<'a>(slots: Slots<'a>, text: &'a [u8], word: &[CssToken]) -> Option<Slots<'a>>
+    ensures { option_map held result ≡ take_keyword (held slots.entry) (words text.now word.now) }
+{
+    if let Some(next) = take_easing(slots, text, word) {
+        return Some(next);
+    }
+    if let Some(next) = take_count(slots, text, word) {
+        return Some(next);
+    }
+    if let Some(next) = take_direction(slots, text, word) {
+        return Some(next);
+    }
+    if let Some(next) = take_fill(slots, text, word) {
+        return Some(next);
+    }
+    if let Some(next) = take_play(slots, text, word) {
+        return Some(next);
+    }
+    take_name(slots, text, word)
+}
+
+/// Whether a word is a time.
+fn is_time(text: &[u8], word: &[CssToken]) -> bool
+    ensures { result ≡ is_value (time_of true (words text.now word.now)) }
+{
+    match time(text, word, true) {
+        Ok(_) | Err(ValueFault::OverLimit) => true,
+        Err(_) => false,
+    }
+}
+
+/// A word takes its slot.
+#[tactic(auto, unfolding(crate::specs::ShorthandGrammar::take_word))]
+fn take_word<'a>(slots: Slots<'a>, text: &'a [u8], word: &[CssToken]) -> Option<Slots<'a>>
+    ensures { option_map held result ≡ take_word (held slots.entry) (words text.now word.now) }
+{
+    if is_time(text, word) {
+        take_time(slots, text, word)
+    } else {
+        take_keyword(slots, text, word)
+    }
+}
+
+/// Whether a token of this kind ends a word.
+fn ends_word(inside: bool, kind: CssKind) -> bool
+    ensures { result ≡ ends_word inside kind }
+{
+    match kind {
+        CssKind::RightParen => true,
+        CssKind::Function => false,
+        _ => !inside,
+    }
+}
+
+/// How many tokens the first word has.
+fn word_length(tokens: &[CssToken]) -> usize
+    ensures exact { result ≡ word_length false tokens.now }
+    ensures within { result ≤ length tokens.now }
+    ensures some { 0 < length tokens.now → 0 < result }
+{
+    let mut inside = false;
+    let mut count = 0;
+    let mut rest = tokens;
+    'counting: while let Some((first, more)) = rest.split_first() {
+        count += 1;
+        if ends_word(inside, first.kind) {
+            return count;
+        }
+        inside = true;
+        rest = more;
+    }
+    count
+}
+
+/// The first word of an item, and the tokens behind it.
+#[derive(Clone, Copy)]
+struct Group<'a> {
+    word: &'a [CssToken],
+    rest: &'a [CssToken],
+}
+
+/// The first word, where there is one.
+fn next_word<'a>(text: &[u8], tokens: &'a [CssToken]) -> Group<'a>
+    requires { 0 < length tokens.now }
+    ensures groups { groups false (words text.now tokens.now)
+        ≡ words text.now result.word.now ∷ groups false (words text.now result.rest.now) }
+    ensures shorter { length result.rest.now < length tokens.now }
+{
+    let (word, rest) = tokens.split_at(word_length(tokens));
+    Group { word, rest }
+}
+
+/// What all words of an item take.
+fn take_all<'a>(text: &'a [u8], tokens: &[CssToken]) -> Option<Slots<'a>>
+    ensures { option_map held result ≡ take_all free (groups false (words text.now tokens.now)) }
+{
+    let mut slots = FREE;
+    let mut rest = tokens;
+    'words: while !rest.is_empty() {
+        let group = next_word(text, rest);
+        slots = take_word(slots, text, group.word)?;
+        rest = group.rest;
+    }
+    Some(slots)
+}
+
+/// The bytes of the name.
+fn name_in<'a>(slots: Slots<'a>) -> Option<&'a [u8]>
+    ensures { option_copied result ≡ unwrap_or (held slots.entry).name None }
+{
+    match slots.name {
+        Some(name) => name,
+        None => None,
+    }
+}
+
+/// An item of these slots. Those that nothing took have the initial values.
+#[tactic(auto, unfolding(crate::specs::ShorthandGrammar::settled))]
+fn settled(alloc: Global, slots: Slots<'_>) -> Result<Shorthand, ValueFault>
+    ensures { Gives result (settled (held slots.entry)) }
+{
+    if slots.over {
+        return Err(ValueFault::OverLimit);
+    }
+    let name = owned_name(alloc, name_in(slots))?;
+    Ok(Shorthand {
+        name,
+        duration: slots.duration.unwrap_or(0),
+        easing: slots.easing.unwrap_or(EASE),
+        delay: slots.delay.unwrap_or(0),
+        count: slots.count.unwrap_or(Count::Times(1000)),
+        direction: slots.direction.unwrap_or(Direction::Normal),
+        fill: slots.fill.unwrap_or(Fill::Absent),
+        paused: slots.paused.unwrap_or(false),
+    })
+}
+
+/// Items of the shorthand.
+pub struct Shorthands;
+
+impl Item for Shorthands {
+    type Value = Shorthand;
+
+    ghost item = { item_of };
+
+    #[tactic(auto, unfolding(crate::specs::ShorthandGrammar::item_of))]
+    fn read(alloc: Global, text: &[u8], tokens: &[CssToken]) -> Result<Shorthand, ValueFault> {
+        let Some(_) = tokens.split_first() else {
+            return Err(ValueFault::BadValue);
+        };
+        match take_all(text, tokens) {
+            Some(slots) => settled(alloc, slots),
+            None => Err(ValueFault::BadValue),
+        }
     }
 }
