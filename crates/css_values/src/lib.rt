@@ -3,6 +3,7 @@
 
 mod colours;
 mod columns;
+mod declarations;
 mod digits;
 mod easings;
 mod fault;
@@ -18,12 +19,8 @@ pub mod types;
 mod word;
 
 pub use colours::colour;
+pub use declarations::declaration;
 pub use easings::easing;
 pub use fault::ValueFault;
-pub use lists::{Item, list_of};
-pub use quantity::{count, duration, is_nothing, length, opacity, percentage, time, z_index};
-pub use tables::{direction_named, fill_named, play_named, property, reserved, visibility_named};
-pub use word::{
-    behind_close, behind_comma, function_text_at, ident_at, is_lone, lone_hash, lone_ident,
-    lone_number_text, number_text_at,
-};
+pub use quantity::{length, opacity, percentage, time, z_index};
+pub use tables::property;

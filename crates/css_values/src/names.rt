@@ -1,14 +1,14 @@
 // Items that are one word.
 ghost use Rattle.std.specs.Prelude.{◌≡◌, IfErr, IfOk, option_copied};
 ghost use Rattle.css_values.specs.declared.fault.ValueFault.TheVariants.{NoMemory as Refused};
-ghost use Rattle.css_values.specs.Keywords.{direction_words, fill_words, play_words};
+ghost use Rattle.css_values.specs.Keywords.{direction_words, fill_words, play_words, visibility_words};
 ghost use Rattle.css_values.specs.Lists.{Gives};
 ghost use Rattle.css_values.specs.Names.{keyword_of, name_of, named};
 ghost use Rattle.css_values.specs.Words.{mapped, words};
 
 use crate::fault::ValueFault;
 use crate::keyword::is_keyword;
-use crate::tables::{direction_named, fill_named, play_named, reserved};
+use crate::tables::{direction_named, fill_named, play_named, reserved, visibility_named};
 use crate::word::lone_ident;
 use page_model::{Direction, Fill, Name};
 use std::alloc::Global;
@@ -52,6 +52,20 @@ pub fn play(text: &[u8], tokens: &[CssToken]) -> Result<bool, ValueFault>
     };
     match play_named(bytes) {
         Some(paused) => Ok(paused),
+        None => Err(ValueFault::BadValue),
+    }
+}
+
+/// A visibility: whether it is `visible`.
+#[tactic(auto, unfolding(crate::specs::Names::keyword_of))]
+pub fn visibility(text: &[u8], tokens: &[CssToken]) -> Result<bool, ValueFault>
+    ensures { result ≡ keyword_of visibility_words (words text.now tokens.now) }
+{
+    let Some(bytes) = lone_ident(text, tokens) else {
+        return Err(ValueFault::BadValue);
+    };
+    match visibility_named(bytes) {
+        Some(visible) => Ok(visible),
         None => Err(ValueFault::BadValue),
     }
 }
