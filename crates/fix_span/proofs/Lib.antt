@@ -1,1 +1,2 @@
 mod DivisorLemmas
+mod NestedLemmas

@@ -1,6 +1,6 @@
 -- Fractions as the code has them: exact results of the operations, and which point a fraction is.
-use Rattle.std.specs.Prelude.{ℕ, ℤ, pos, ◌≡◌, ◌<◌, ◌*◌, ◌+ℤ◌, ◌-ℤ◌, ◌*ℤ◌, ◌≤ℤ◌, ◌<ℤ◌, nat_abs, FitsSigned}
-use Rattle.std.specs.Int.{int_div_euclid, w32, w128}
+use Rattle.std.specs.Prelude.{ℕ, ℤ, Bool, pos, int_le, ◌≡◌, ◌<◌, ◌+◌, ◌*◌, ◌/◌, if◌then◌else◌, ◌+ℤ◌, ◌-ℤ◌, ◌*ℤ◌, ◌≤ℤ◌, ◌<ℤ◌, nat_abs, FitsSigned}
+use Rattle.std.specs.Int.{int_div_euclid, int_rem_euclid, w32, w128}
 use Rattle.page_model.specs.Fraction.{Fraction}
 use Rattle.fix_span.specs.declared.frac.Frac.{Frac}
 use Rattle.fix_span.specs.Rational.{Rational}
@@ -48,10 +48,20 @@ pub record IsShare (x : Frac) : Type 0 where
 abbrev pub half_up : Frac → ℕ → ℤ
 half_up x unit = int_div_euclid (x.num *ℤ pos 2 +ℤ pos unit *ℤ x.den) (pos (2 * unit) *ℤ x.den)
 
--- a fraction can be divided by a unit and rounded: what is divided and what it is divided by fit their type, and the result its own
+-- its whole part
+abbrev pub whole_part : Frac → ℤ
+whole_part x = int_div_euclid x.num x.den
+
+-- what is left of it beside its whole part is one half or more
+abbrev pub is_past_half : Frac → Bool
+is_past_half x = int_le x.den (pos 2 *ℤ int_rem_euclid x.num x.den)
+
+-- half of a unit, rounded down, or up where there is more
+abbrev pub half_of_unit : Frac → ℕ → ℕ
+half_of_unit x unit = (unit + (if is_past_half x then 1 else 0)) / 2
+
+-- a fraction can be rounded in a unit: the whole number that it rounds to fits its type
 pub record CanRound (x : Frac) (unit : ℕ) : Type 0 where
   pub positive : pos 0 <ℤ x.den
   pub some_unit : 0 < unit
-  pub dividend : FitsSigned w128 (x.num *ℤ pos 2 +ℤ pos unit *ℤ x.den)
-  pub divisor : FitsSigned w128 (pos (2 * unit) *ℤ x.den)
-  pub whole : FitsSigned w32 (half_up x unit)
+  pub fits : FitsSigned w32 (half_up x unit)

@@ -3,4 +3,4 @@ pub mod FracLaws
 pub mod IntLaws
 pub mod Rational
 pub mod Rounding
-mod RoundingLaws
+pub mod RoundingLaws

@@ -59,7 +59,7 @@ greatest_end p x v u b d some e h =
     (rw (sum, bound) (omega (arith, ints, scaled, right, turned p x b d e)))
 
 -- a multiple that is at most a number is at most that of the number's floor
-at_most_floor : (w v a : ℤ) (n : ℕ) → (w *ℤ pos n) ≤ℤ a → a <ℤ (v *ℤ pos n +ℤ pos n) → w ≤ℤ v
+pub at_most_floor : (w v a : ℤ) (n : ℕ) → (w *ℤ pos n) ≤ℤ a → a <ℤ (v *ℤ pos n +ℤ pos n) → w ≤ℤ v
 at_most_floor w v a n h k =
     let next : (v +ℤ pos 1) *ℤ pos n ≡ v *ℤ pos n +ℤ pos 1 *ℤ pos n = add-*ℤ v (pos 1) (pos n) in
     let next' : (v +ℤ pos 1) *ℤ pos n ≡ v *ℤ pos n +ℤ pos n = rw next (omega (arith, ints)) in

@@ -1,32 +1,49 @@
 // A fraction rounded half up.
-ghost use Rattle.std.specs.Prelude.{◌≡◌, pos, ◌*◌, ◌<◌, ◌+ℤ◌, ◌*ℤ◌, ◌<ℤ◌, FitsSigned};
-ghost use Rattle.std.specs.Int.{w128, int_div_euclid};
-ghost use Rattle.fix_span.specs.Frac.{CanRound, half_up};
+ghost use Rattle.std.specs.Prelude.{◌≡◌, pos, ◌+◌, ◌/◌, ◌<◌, ◌≤ℤ◌, ◌<ℤ◌, ◌+ℤ◌, if◌then◌else◌};
+ghost use Rattle.std.specs.Int.{int_div_euclid, int_rem_euclid};
+ghost use Rattle.fix_span.specs.Frac.{CanRound, half_up, whole_part, is_past_half, half_of_unit};
 
-use crate::frac::{Frac, cross_sum};
+use crate::frac::Frac;
 
 // The fraction divided by the unit, plus one half, rounded down.
-pub fn half_up_of(x: Frac, unit: u32) -> i128
+//
+// The whole part and the unit's half are added before they are divided, so that no number is greater than it must
+// be: half of an odd unit counts for more where the part that is left of the fraction is a half or more.
+pub(crate) fn half_up_of(x: Frac, unit: u32) -> i128
     requires { CanRound x unit }
     ensures { result ≡ half_up x unit }
 {
-    let dividend = dividend_of(x, unit);
-    let divisor = divisor_of(x, unit);
-    floor_of(dividend, divisor)
+    floor_of(dividend_of(x, unit), unit as i128)
 }
 
 fn dividend_of(x: Frac, unit: u32) -> i128
-    requires { FitsSigned w128 (x.num *ℤ pos 2 +ℤ pos unit *ℤ x.den) }
-    ensures { result ≡ x.num *ℤ pos 2 +ℤ pos unit *ℤ x.den }
+    requires { CanRound x unit }
+    ensures { result ≡ whole_part x +ℤ pos (half_of_unit x unit) }
 {
-    cross_sum(x.num, x.den, unit as i128, 2)
+    whole_of(x) + half_of(unit, is_past(x)) as i128
 }
 
-fn divisor_of(x: Frac, unit: u32) -> i128
-    requires { FitsSigned w128 (pos (2 * unit) *ℤ x.den) }
-    ensures { result ≡ pos (2 * unit) *ℤ x.den }
+fn whole_of(x: Frac) -> i128
+    requires { pos 0 <ℤ x.den }
+    ensures { result ≡ whole_part x }
 {
-    2 * unit as i128 * x.den
+    floor_of(x.num, x.den)
+}
+
+// Whether what is left of the fraction beside its whole part is one half or more.
+fn is_past(x: Frac) -> bool
+    requires { pos 0 <ℤ x.den }
+    ensures { result ≡ is_past_half x }
+{
+    let rest = rest_of(x.num, x.den);
+    rest >= x.den - rest
+}
+
+// Half of a unit, rounded down, or up where there is more.
+fn half_of(unit: u32, more: bool) -> u32
+    ensures { result ≡ (unit + (if more then 1 else 0)) / 2 }
+{
+    if more { unit / 2 + unit % 2 } else { unit / 2 }
 }
 
 // The floor of a quotient.
@@ -35,4 +52,14 @@ fn floor_of(num: i128, den: i128) -> i128
     ensures { result ≡ int_div_euclid num den }
 {
     num.div_euclid(den)
+}
+
+// What is left of a number beside a whole multiple of another.
+fn rest_of(num: i128, den: i128) -> i128
+    requires { pos 0 <ℤ den }
+    ensures value { result ≡ int_rem_euclid num den }
+    ensures least { pos 0 ≤ℤ result }
+    ensures most { result <ℤ den }
+{
+    num.rem_euclid(den)
 }

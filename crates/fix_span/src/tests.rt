@@ -23,6 +23,10 @@ fn halves_round_up(rt: HostRuntime) {
         Frac { num: 150, den: 1 }.round_half_up(100),
         Loose { lo: 2, hi: 2 }
     );
+    assert_eq!(rt;
+        Frac { num: 9, den: 2 }.round_half_up(3),
+        Loose { lo: 2, hi: 2 }
+    );
 }
 
 #[test]
