@@ -3,3 +3,4 @@ pub mod GroupLemmas
 pub mod ListLemmas
 pub mod PieceLemmas
 pub mod PointLemmas
+pub mod ValidNumbers

@@ -10,5 +10,6 @@ pub mod Numerals
 pub mod Quantities
 pub mod ShorthandGrammar
 pub mod ShorthandViews
+pub mod ValidValues
 pub mod ValueGrammar
 pub mod Words

@@ -1,6 +1,6 @@
 // Lengths, times, percentages and plain numbers.
-ghost use Rattle.std.specs.Prelude.{◌≡◌, ◌≤◌, ◌<◌, ◌^◌, IfOk, codes};
-ghost use Rattle.page_model.specs.ValidScene.{IsBetween, IsCount, IsExtent, IsPosition};
+ghost use Rattle.std.specs.Prelude.{◌≡◌, ◌≤◌, ◌<◌, ◌^◌, IfOk, codes, false};
+ghost use Rattle.page_model.specs.ValidScene.{IsExtent, IsPosition};
 ghost use Rattle.css_values.specs.NumeralViews.{seen};
 ghost use Rattle.css_values.specs.Quantities.{count_of, duration_of, is_nothing, length_of, length_size, opacity_of};
 ghost use Rattle.css_values.specs.Quantities.{percentage_of, signed_int, size_of, time_of, time_size, within, z_index_of};
@@ -86,8 +86,17 @@ fn length_size(signed: bool, number: Number<'_>) -> Result<u32, ValueFault>
 
 /// A length in hundredths of a pixel: CSS Values and Units Module Level 3. A negative one spells none, where it isn't
 /// to be signed.
-#[tactic(auto, unfolding(crate::specs::Quantities::length_of))]
 pub fn length(text: &[u8], tokens: &[CssToken], signed: bool) -> Result<i32, ValueFault>
+    ensures exact { result ≡ length_of signed (words text.now tokens.now) }
+    ensures position { IfOk result IsPosition }
+    ensures extent { signed ≡ false → IfOk result IsExtent }
+{
+    signed_length(text, tokens, signed)
+}
+
+/// A length.
+#[tactic(auto, unfolding(crate::specs::Quantities::length_of))]
+fn signed_length(text: &[u8], tokens: &[CssToken], signed: bool) -> Result<i32, ValueFault>
     ensures { result ≡ length_of signed (words text.now tokens.now) }
 {
     let Some(number) = lone_number(text, tokens) else {
