@@ -78,9 +78,19 @@ curve_of p =
     Ok (Cubic p.x1.1 (signed_int p.y1.0 p.y1.1) p.x2.1 (signed_int p.y2.0 p.y2.1)))
     else Err BadValue
 
+-- steps, or else what is spelled otherwise
+abbrev pub stepped : Option (ℕ × Jump) → Result Easing ValueFault → Result Easing ValueFault
+stepped (Some steps) other = steps_of steps.0 steps.1
+stepped None other = other
+
 -- a function with its words
 unfoldable pub easing_function : List Word → Result Easing ValueFault
-easing_function words = elim (steps_at words) [ Some s ↦ steps_of s.0 s.1 | None ↦ or_bad (points_at words) curve_of ]
+easing_function words = stepped (steps_at words) (or_bad (points_at words) curve_of)
+
+-- a word, or else what is spelled otherwise
+abbrev pub worded : Option Easing → Result Easing ValueFault → Result Easing ValueFault
+worded (Some easing) other = Ok easing
+worded None other = other
 
 unfoldable pub easing_of : List Word → Result Easing ValueFault
-easing_of words = elim (option_and_then (lookup easing_words) (lone when_ident words)) [ Some easing ↦ Ok easing | None ↦ easing_function words ]
+easing_of words = worded (option_and_then (lookup easing_words) (lone when_ident words)) (easing_function words)

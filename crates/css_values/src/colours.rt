@@ -1,8 +1,9 @@
 // Colours: CSS Color Module Level 3, as a profile.
-ghost use Rattle.std.specs.Prelude.{◌≡◌, option_map};
+ghost use Rattle.std.specs.Prelude.{◌≡◌, IfOk, option_map};
 ghost use Rattle.css_values.specs.Colours.{channel_and_comma, channel_at, channels, colour_of, ended, function_at};
 ghost use Rattle.css_values.specs.Colours.{hash_colour, pair, rgb_of, whole_at};
 ghost use Rattle.css_values.specs.Words.{words};
+ghost use Rattle.page_model.specs.ValidScene.{IsColour};
 
 use crate::digits::digit_value;
 use crate::fault::ValueFault;
@@ -132,7 +133,8 @@ fn rgb_of(text: &[u8], tokens: &[CssToken]) -> Option<Rgb>
 /// A colour: `#` and three or six hexadecimal digits, a name of the table, or `rgb(`, three whole numbers and `)`.
 #[tactic(auto, unfolding(crate::specs::Colours::colour_of))]
 pub fn colour(text: &[u8], tokens: &[CssToken]) -> Result<Rgb, ValueFault>
-    ensures { result ≡ colour_of (words text.now tokens.now) }
+    ensures exact { result ≡ colour_of (words text.now tokens.now) }
+    ensures valid { IfOk result IsColour }
 {
     if let Some(bytes) = lone_hash(text, tokens) {
         if let Some(colour) = hash_colour(bytes) {

@@ -1,7 +1,8 @@
 // The value of a declaration: CSS Cascading Level 3 has what a shorthand sets.
-ghost use Rattle.std.specs.Prelude.{◌≡◌, ◌∷◌, [], IfOk};
+ghost use Rattle.std.specs.Prelude.{◌≡◌, ◌∷◌, [], All, IfOk};
 ghost use Rattle.css_values.specs.Lists.{Gives, list_of};
 ghost use Rattle.css_values.specs.ShorthandGrammar.{item_of};
+ghost use Rattle.css_values.specs.ValidValues.{IsLonghand};
 ghost use Rattle.css_values.specs.ValueGrammar.{columns, declaration_of, is_shorthand, longhand_of, only_if};
 ghost use Rattle.css_values.specs.Words.{mapped, words};
 
@@ -100,9 +101,22 @@ fn is_shorthand(property: Property) -> bool
 }
 
 /// The longhands that a declaration of this property with this value sets, in the order of the variants of
-/// [`Longhand`].
-#[tactic(auto, unfolding(crate::specs::ValueGrammar::declaration_of))]
+/// [`Longhand`]: one, or for the shorthand `animation` eight.
 pub fn declaration(
+    alloc: Global,
+    property: Property,
+    text: &[u8],
+    tokens: &[CssToken],
+) -> Result<List<Longhand>, ValueFault>
+    ensures exact { Gives result (declaration_of property (words text.now tokens.now)) }
+    ensures valid { IfOk result (λ longhands. All IsLonghand longhands) }
+{
+    any_declaration(alloc, property, text, tokens)
+}
+
+/// The longhands of a declaration.
+#[tactic(auto, unfolding(crate::specs::ValueGrammar::declaration_of))]
+fn any_declaration(
     alloc: Global,
     property: Property,
     text: &[u8],

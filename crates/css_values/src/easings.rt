@@ -1,9 +1,9 @@
 // Easings: CSS Easing Functions Level 1, as a profile.
-ghost use Rattle.std.specs.Prelude.{◌≡◌, ◌≤◌, IfSome, option_map};
+ghost use Rattle.std.specs.Prelude.{◌≡◌, ◌≤◌, IfOk, IfSome, option_map};
 ghost use Rattle.css_values.specs.Easings.{curve_of, easing_function, easing_of, is_column, jump_at, jump_word, point_and_comma};
 ghost use Rattle.css_values.specs.Easings.{points_at, steps_at, steps_of, thousandths_at, thousandths_of};
 ghost use Rattle.css_values.specs.EasingViews.{pointed, written};
-ghost use Rattle.page_model.specs.ValidScene.{least_steps};
+ghost use Rattle.page_model.specs.ValidScene.{IsEasing, least_steps};
 ghost use Rattle.css_values.specs.Quantities.{signed_int};
 ghost use Rattle.css_values.specs.NumeralViews.{seen};
 ghost use Rattle.css_values.specs.Words.{words};
@@ -205,8 +205,16 @@ fn easing_function(text: &[u8], tokens: &[CssToken]) -> Result<Easing, ValueFaul
 }
 
 /// An easing: a word, `steps(..)` or `cubic-bezier(..)`.
-#[tactic(auto, unfolding(crate::specs::Easings::easing_of))]
 pub fn easing(text: &[u8], tokens: &[CssToken]) -> Result<Easing, ValueFault>
+    ensures exact { result ≡ easing_of (words text.now tokens.now) }
+    ensures valid { IfOk result IsEasing }
+{
+    any_easing(text, tokens)
+}
+
+/// An easing.
+#[tactic(auto, unfolding(crate::specs::Easings::easing_of))]
+fn any_easing(text: &[u8], tokens: &[CssToken]) -> Result<Easing, ValueFault>
     ensures { result ≡ easing_of (words text.now tokens.now) }
 {
     if let Some(bytes) = lone_ident(text, tokens) {

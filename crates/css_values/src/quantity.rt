@@ -1,9 +1,10 @@
 // Lengths, times, percentages and plain numbers.
-ghost use Rattle.std.specs.Prelude.{◌≡◌, ◌≤◌, ◌<◌, ◌^◌, IfOk, codes, false};
-ghost use Rattle.page_model.specs.ValidScene.{IsExtent, IsPosition};
+ghost use Rattle.std.specs.Prelude.{◌≡◌, ◌≤◌, ◌<◌, ◌^◌, IfOk, codes, false, pos};
+ghost use Rattle.page_model.specs.ValidScene.{IsBetween, IsExtent, IsPosition};
 ghost use Rattle.css_values.specs.NumeralViews.{seen};
 ghost use Rattle.css_values.specs.Quantities.{count_of, duration_of, is_nothing, length_of, length_size, opacity_of};
 ghost use Rattle.css_values.specs.Quantities.{percentage_of, signed_int, size_of, time_of, time_size, within, z_index_of};
+ghost use Rattle.css_values.specs.ValidValues.{IsLevel, IsTime};
 ghost use Rattle.css_values.specs.Words.{words};
 
 use crate::fault::ValueFault;
@@ -124,8 +125,17 @@ fn time_size(signed: bool, number: Number<'_>) -> Result<u32, ValueFault>
 }
 
 /// A time in milliseconds. A negative one spells none, where it isn't to be signed.
-#[tactic(auto, unfolding(crate::specs::Quantities::time_of))]
 pub fn time(text: &[u8], tokens: &[CssToken], signed: bool) -> Result<i32, ValueFault>
+    ensures exact { result ≡ time_of signed (words text.now tokens.now) }
+    ensures valid { IfOk result IsTime }
+    ensures early { signed ≡ false → IfOk result (λ v. IsBetween (pos 0) (pos 100000) v) }
+{
+    signed_time(text, tokens, signed)
+}
+
+/// A time.
+#[tactic(auto, unfolding(crate::specs::Quantities::time_of))]
+fn signed_time(text: &[u8], tokens: &[CssToken], signed: bool) -> Result<i32, ValueFault>
     ensures { result ≡ time_of signed (words text.now tokens.now) }
 {
     let Some(number) = lone_number(text, tokens) else {
@@ -167,8 +177,16 @@ pub fn percentage(text: &[u8], tokens: &[CssToken]) -> Result<i64, ValueFault>
 }
 
 /// An opacity in thousandths, held to 0 and 1: CSS Color Module Level 3.
-#[tactic(auto, unfolding(crate::specs::Quantities::opacity_of))]
 pub fn opacity(text: &[u8], tokens: &[CssToken]) -> Result<u16, ValueFault>
+    ensures exact { result ≡ opacity_of (words text.now tokens.now) }
+    ensures valid { IfOk result (λ n. n ≤ 1000) }
+{
+    held_opacity(text, tokens)
+}
+
+/// An opacity.
+#[tactic(auto, unfolding(crate::specs::Quantities::opacity_of))]
+fn held_opacity(text: &[u8], tokens: &[CssToken]) -> Result<u16, ValueFault>
     ensures { result ≡ opacity_of (words text.now tokens.now) }
 {
     let Some(number) = lone_number(text, tokens) else {
@@ -185,8 +203,16 @@ pub fn opacity(text: &[u8], tokens: &[CssToken]) -> Result<u16, ValueFault>
 }
 
 /// A `z-index`; `auto` is 0.
-#[tactic(auto, unfolding(crate::specs::Quantities::z_index_of))]
 pub fn z_index(text: &[u8], tokens: &[CssToken]) -> Result<i32, ValueFault>
+    ensures exact { result ≡ z_index_of (words text.now tokens.now) }
+    ensures valid { IfOk result IsLevel }
+{
+    level(text, tokens)
+}
+
+/// A `z-index`.
+#[tactic(auto, unfolding(crate::specs::Quantities::z_index_of))]
+fn level(text: &[u8], tokens: &[CssToken]) -> Result<i32, ValueFault>
     ensures { result ≡ z_index_of (words text.now tokens.now) }
 {
     if is_lone(b"auto", text, tokens) {

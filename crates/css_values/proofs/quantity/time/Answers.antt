@@ -1,0 +1,15 @@
+use Rattle.std.proofs.Common.{ap, ◌∙◌, pos}
+use Rattle.page_model.specs.ValidScene.{IsBetween}
+use Rattle.css_values.specs.Quantities.{time_of}
+use Rattle.css_values.specs.ValidValues.{IsTime}
+use Rattle.css_values.specs.Words.{words}
+use Rattle.css_values.proofs.ValidNumbers.{on_ok, time_is, early_is}
+use Rattle.css_values.proofs.quantity.time.Goals as goal
+
+pub returns-clause-valid : goal.returns-clause-valid
+returns-clause-valid c = on_ok IsTime _ _ c.signed_time.ensures (time_is c.args.signed (words c.args.text.now c.args.tokens.now))
+
+pub returns-clause-early : goal.returns-clause-early
+returns-clause-early c = λ unsigned.
+    on_ok (λ v. IsBetween (pos 0) (pos 100000) v) _ _ (c.signed_time.ensures ∙ ap (λ s. time_of s (words c.args.text.now c.args.tokens.now)) unsigned)
+    (early_is (words c.args.text.now c.args.tokens.now))
