@@ -35,7 +35,7 @@ pub fn progress(anim: &Anim, setup: &Setup, k: u64) -> Option<Frac>
     }
 }
 
-// The directed progress, from the phase and the active time.
+/// The directed progress, from the phase and the active time.
 fn progress_in(anim: &Anim, setup: &Setup, phase: Phase, time: u64) -> Ratio
     requires { IsTimed anim.now }
     ensures value { ratio_as result ≡ definition.progress_in setup.now anim.now (phase_as phase) time }

@@ -4,14 +4,14 @@ ghost use Rattle.std.specs.Int.{w64};
 ghost use Rattle.page_model.specs.Progress as definition;
 ghost use Rattle.anim_timing.specs.Views.{extent_as, CanBeLater};
 
-// A time in units of 1/(1000 H) ms, or none because there is no end.
+/// A time in units of 1/(1000 rate) ms, or none because there is no end.
 #[derive(Clone, Copy)]
 pub enum Extent {
     Finite(i64),
     Endless,
 }
 
-// A time so much later.
+/// A time so much later.
 pub fn later_by(from: i64, length: Extent) -> Extent
     requires { CanBeLater from (extent_as length) }
     ensures { extent_as result ≡ definition.later_by from (extent_as length) }
@@ -22,7 +22,7 @@ pub fn later_by(from: i64, length: Extent) -> Extent
     }
 }
 
-// The lesser of a time and an extent.
+/// The lesser of a time and an extent.
 pub fn lesser(time: i64, other: Extent) -> i64
     ensures { result ≡ definition.lesser time (extent_as other) }
 {
@@ -32,7 +32,7 @@ pub fn lesser(time: i64, other: Extent) -> i64
     }
 }
 
-// The lesser of two extents.
+/// The lesser of two extents.
 pub fn lesser_extent(first: Extent, other: Extent) -> Extent
     ensures { extent_as result ≡ definition.lesser_extent (extent_as first) (extent_as other) }
 {
@@ -42,7 +42,7 @@ pub fn lesser_extent(first: Extent, other: Extent) -> Extent
     }
 }
 
-// The time, or 0 where it is earlier.
+/// The time, or 0 where it is earlier.
 pub fn not_before_zero(extent: Extent) -> Extent
     ensures { extent_as result ≡ definition.not_before_zero (extent_as extent) }
 {
@@ -52,7 +52,7 @@ pub fn not_before_zero(extent: Extent) -> Extent
     }
 }
 
-// Whether a moment is at a time or past it.
+/// Whether a moment is at a time or past it.
 pub fn has_come(moment: i64, extent: Extent) -> bool
     ensures { result ≡ definition.has_come moment (extent_as extent) }
 {

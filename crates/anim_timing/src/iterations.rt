@@ -9,21 +9,21 @@ use crate::phases::Phase;
 use crate::ratio::Ratio;
 use page_model::{Count, Direction};
 
-// A number of iterations: a fraction, or infinitely many.
+/// A number of iterations: a fraction, or infinitely many.
 #[derive(Clone, Copy)]
 pub enum Iterations {
     SoMany(Ratio),
     Infinite,
 }
 
-// The number of an iteration, from 0, or none because there is no last one.
+/// The number of an iteration, from 0, or none because there is no last one.
 #[derive(Clone, Copy)]
 pub enum Turn {
     Number(u64),
     NoLast,
 }
 
-// All the iterations of a count.
+/// All the iterations of a count.
 fn all_of(count: Count) -> Iterations
     ensures { iterations_as result ≡ definition.all_of count }
 {
@@ -36,7 +36,7 @@ fn all_of(count: Count) -> Iterations
     }
 }
 
-// With no duration, none is over in the before phase, and all are over behind it.
+/// With no duration, none is over in the before phase, and all are over behind it.
 fn overall_at_once(phase: Phase, count: Count) -> Iterations
     ensures { iterations_as result ≡ definition.overall_at_once (phase_as phase) count }
 {
@@ -46,7 +46,7 @@ fn overall_at_once(phase: Phase, count: Count) -> Iterations
     }
 }
 
-// The overall progress: the active time over the duration.
+/// The overall progress: the active time over the duration.
 pub fn overall_progress(phase: Phase, count: Count, duration: u64, time: u64) -> Iterations
     requires { duration ≤ 24000000000 }
     ensures { iterations_as result ≡ definition.overall_progress (phase_as phase) count duration time }
@@ -61,7 +61,7 @@ pub fn overall_progress(phase: Phase, count: Count, duration: u64, time: u64) ->
     }
 }
 
-// The part of the current iteration that is over.
+/// The part of the current iteration that is over.
 pub fn remainder_of(overall: Iterations) -> Ratio
     ensures value { ratio_as result ≡ definition.remainder_of (iterations_as overall) }
     ensures at_most_one { result.num ≤ result.den }
@@ -75,6 +75,7 @@ pub fn remainder_of(overall: Iterations) -> Ratio
     }
 }
 
+/// Whether it is the before phase.
 fn is_before(phase: Phase) -> bool
     ensures { result ≡ definition.is_before (phase_as phase) }
 {
@@ -84,7 +85,7 @@ fn is_before(phase: Phase) -> bool
     }
 }
 
-// Whether the active time is the whole active duration.
+/// Whether the active time is the whole active duration.
 fn is_whole(time: u64, length: Extent) -> bool
     ensures { result ≡ definition.is_whole time (extent_as length) }
 {
@@ -94,6 +95,7 @@ fn is_whole(time: u64, length: Extent) -> bool
     }
 }
 
+/// Whether there is no iteration at all.
 fn is_none(count: Count) -> bool
     ensures { result ≡ definition.is_none count }
 {
@@ -103,14 +105,14 @@ fn is_none(count: Count) -> bool
     }
 }
 
-// Whether an iteration has just ended and no other begins, so that its end counts as 1 and not as 0.
+/// Whether an iteration has just ended and no other begins, so that its end counts as 1 and not as 0.
 pub fn is_at_end(phase: Phase, count: Count, time: u64, length: Extent) -> bool
     ensures { result ≡ definition.is_at_end (phase_as phase) count time (extent_as length) }
 {
     !is_before(phase) && is_whole(time, length) && !is_none(count)
 }
 
-// The simple iteration progress, of the remainder.
+/// The simple iteration progress, of the remainder.
 pub fn simple_progress(rest: Ratio, at_end: bool) -> Ratio
     requires { rest.num ≤ rest.den }
     ensures value { ratio_as result ≡ definition.simple_progress (ratio_as rest) at_end }
@@ -123,7 +125,7 @@ pub fn simple_progress(rest: Ratio, at_end: bool) -> Ratio
     }
 }
 
-// The whole iterations that are over; at the end of one, that one is still the current one.
+/// The whole iterations that are over; at the end of one, that one is still the current one.
 fn turn_at(overall: Iterations, simple: Ratio) -> Turn
     ensures { turn_as result ≡ definition.turn_at (iterations_as overall) (ratio_as simple) }
 {
@@ -140,7 +142,7 @@ fn turn_at(overall: Iterations, simple: Ratio) -> Turn
     }
 }
 
-// The current iteration: after infinitely many there is no last one.
+/// The current iteration: after infinitely many there is no last one.
 pub fn current_turn(phase: Phase, count: Count, overall: Iterations, simple: Ratio) -> Turn
     ensures { turn_as result
         ≡ definition.current_turn (phase_as phase) count (iterations_as overall) (ratio_as simple) }
@@ -151,7 +153,7 @@ pub fn current_turn(phase: Phase, count: Count, overall: Iterations, simple: Rat
     }
 }
 
-// Whether an iteration runs backwards.
+/// Whether an iteration runs backwards.
 pub fn runs_backwards(direction: Direction, turn: Turn) -> bool
     ensures { result ≡ definition.runs_backwards direction (turn_as turn) }
 {
@@ -164,7 +166,7 @@ pub fn runs_backwards(direction: Direction, turn: Turn) -> bool
     }
 }
 
-// The directed progress: from the other end where the iteration runs backwards.
+/// The directed progress: from the other end where the iteration runs backwards.
 pub fn directed(backwards: bool, simple: Ratio) -> Ratio
     requires { simple.num ≤ simple.den }
     ensures value { ratio_as result ≡ definition.directed backwards (ratio_as simple) }

@@ -16,8 +16,6 @@ mod extent;
 mod iterations;
 mod phases;
 mod ratio;
-#[cfg(test)]
-mod tests;
 mod times;
 
 pub use directed::progress;

@@ -8,6 +8,7 @@ use crate::extent::{Extent, has_come, lesser};
 use crate::times::{active_duration, active_from, after_from, delay, local_time};
 use page_model::{Anim, Fill, Setup};
 
+/// The phases of an animation: before its active interval, in it, and after it.
 #[derive(Clone, Copy)]
 pub enum Phase {
     Before,
@@ -15,7 +16,7 @@ pub enum Phase {
     After,
 }
 
-// The phase at a frame.
+/// The phase at a frame.
 pub fn phase_at(anim: &Anim, setup: &Setup, k: u64) -> Phase
     requires frame { k < 2 ^ 32 }
     requires animation { IsTimed anim.now }
@@ -31,7 +32,7 @@ pub fn phase_at(anim: &Anim, setup: &Setup, k: u64) -> Phase
     }
 }
 
-// Whether a fill has an effect in the before phase.
+/// Whether a fill has an effect in the before phase.
 fn fills_before(fill: Fill) -> bool
     ensures { result ≡ definition.fills_before fill }
 {
@@ -41,7 +42,7 @@ fn fills_before(fill: Fill) -> bool
     }
 }
 
-// Whether it has one in the after phase.
+/// Whether a fill has an effect in the after phase.
 fn fills_after(fill: Fill) -> bool
     ensures { result ≡ definition.fills_after fill }
 {
@@ -51,14 +52,14 @@ fn fills_after(fill: Fill) -> bool
     }
 }
 
-// A number, or 0 in place of a negative one.
+/// A number, or 0 in place of a negative one.
 fn above_zero(time: i64) -> u64
     ensures { result ≡ definition.above_zero time }
 {
     if time < 0 { 0 } else { time as u64 }
 }
 
-// The active time in a phase, or none where there is no effect.
+/// The active time in a phase, or none where there is no effect.
 fn active_time_in(phase: Phase, fill: Fill, elapsed: i64, length: Extent) -> Option<u64>
     ensures { result ≡ definition.active_time_in (phase_as phase) fill elapsed (extent_as length) }
 {
@@ -81,7 +82,7 @@ fn active_time_in(phase: Phase, fill: Fill, elapsed: i64, length: Extent) -> Opt
     }
 }
 
-// The active time at a frame whose phase is given, or none where there is no effect.
+/// The active time at a frame whose phase is given, or none where there is no effect.
 pub fn active_time(anim: &Anim, setup: &Setup, k: u64, phase: Phase) -> Option<u64>
     requires frame { k < 2 ^ 32 }
     requires animation { IsTimed anim.now }

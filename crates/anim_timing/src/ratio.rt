@@ -3,7 +3,7 @@ ghost use Rattle.std.specs.Prelude.{◌<◌, ◌≤◌};
 
 use fix_span::Frac;
 
-// `num / den` of an iteration.
+/// `num / den` of an iteration.
 #[derive(Clone, Copy)]
 pub struct Ratio {
     pub num: u64,
@@ -17,7 +17,7 @@ impl Ratio {
     ghost use Rattle.fix_span.specs.Frac.{frac_of};
     ghost use Rattle.anim_timing.specs.Iterations.{ratio_as};
 
-    // The same fraction as callers have it.
+    /// The same fraction as callers have it.
     pub fn to_frac(self) -> Frac
         ensures { result ≡ frac_of (ratio_as self) }
     {

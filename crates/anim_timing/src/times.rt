@@ -1,4 +1,4 @@
-// The times of an animation, in units of 1/(1000 H) ms.
+// The times of an animation, in units of 1/(1000 rate) ms.
 ghost use Rattle.std.specs.Prelude.{◌≡◌, ℕ, pos, neg_ℤ, ◌*◌, ◌^◌, ◌<◌, ◌≤◌, ◌≤ℤ◌};
 ghost use Rattle.page_model.specs.Progress as definition;
 ghost use Rattle.page_model.specs.Time.{ticks_of, signed_ticks_of, thousandths_of};
@@ -9,7 +9,7 @@ ghost use Rattle.anim_timing.specs.Views.{extent_as, IsShort};
 use crate::extent::{Extent, later_by, lesser, lesser_extent, not_before_zero};
 use page_model::{Anim, Count, Setup};
 
-// The local time at a frame: a paused animation stays at its start.
+/// The local time at a frame: a paused animation stays at its start.
 pub fn local_time(anim: &Anim, setup: &Setup, k: u64) -> i64
     requires { k < 2 ^ 32 }
     ensures value { result ≡ definition.local_time_of setup.now anim.now k }
@@ -18,7 +18,7 @@ pub fn local_time(anim: &Anim, setup: &Setup, k: u64) -> i64
     if anim.paused { 0 } else { 1_000_000 * k as i64 }
 }
 
-// A number of milliseconds.
+/// A number of milliseconds.
 fn ticks(setup: &Setup, milliseconds: u32) -> u64
     requires { milliseconds ≤ 100000 }
     ensures value { result ≡ ticks_of setup.now milliseconds }
@@ -27,7 +27,7 @@ fn ticks(setup: &Setup, milliseconds: u32) -> u64
     1000 * milliseconds as u64 * setup.rate() as u64
 }
 
-// The delay, which may be negative.
+/// The delay, which may be negative.
 pub fn delay(anim: &Anim, setup: &Setup) -> i64
     requires { IsTimed anim.now }
     ensures value { result ≡ definition.delay_of setup.now anim.now }
@@ -36,6 +36,7 @@ pub fn delay(anim: &Anim, setup: &Setup) -> i64
     ticks(setup, 1) as i64 * anim.delay as i64
 }
 
+/// The duration of one iteration.
 pub fn duration(anim: &Anim, setup: &Setup) -> u64
     requires { IsTimed anim.now }
     ensures value { result ≡ definition.duration_of setup.now anim.now }
@@ -44,7 +45,7 @@ pub fn duration(anim: &Anim, setup: &Setup) -> u64
     ticks(setup, anim.duration)
 }
 
-// So many thousandths of a number of milliseconds.
+/// So many thousandths of a number of milliseconds.
 fn thousandths(setup: &Setup, thousandths: u32, milliseconds: u32) -> u64
     requires count { thousandths ≤ 10000000 }
     requires time { milliseconds ≤ 100000 }
@@ -54,7 +55,7 @@ fn thousandths(setup: &Setup, thousandths: u32, milliseconds: u32) -> u64
     thousandths as u64 * milliseconds as u64 * setup.rate() as u64
 }
 
-// The active duration: so many iterations; infinitely many of no duration take no time.
+/// The active duration: so many iterations; infinitely many of no duration take no time.
 pub fn active_duration(anim: &Anim, setup: &Setup) -> Extent
     requires { IsTimed anim.now }
     ensures value { extent_as result ≡ definition.active_duration_of setup.now anim.now }
@@ -72,7 +73,7 @@ pub fn active_duration(anim: &Anim, setup: &Setup) -> Extent
     }
 }
 
-// The delay and the active duration together.
+/// The delay and the active duration together.
 fn active_end(anim: &Anim, setup: &Setup) -> Extent
     requires { IsTimed anim.now }
     ensures { extent_as result ≡ definition.active_end_of setup.now anim.now }
@@ -87,7 +88,7 @@ fn end_time(anim: &Anim, setup: &Setup) -> Extent
     not_before_zero(active_end(anim, setup))
 }
 
-// The time from which on the animation is active, if it ever is: the before-active boundary time.
+/// The time from which on the animation is active, if it ever is: the before-active boundary time.
 pub fn active_from(anim: &Anim, setup: &Setup) -> i64
     requires { IsTimed anim.now }
     ensures { result ≡ definition.active_from setup.now anim.now }
@@ -95,7 +96,7 @@ pub fn active_from(anim: &Anim, setup: &Setup) -> i64
     lesser(delay(anim, setup), end_time(anim, setup)).max(0)
 }
 
-// The time from which on it is over: the active-after boundary time.
+/// The time from which on it is over: the active-after boundary time.
 pub fn after_from(anim: &Anim, setup: &Setup) -> Extent
     requires { IsTimed anim.now }
     ensures { extent_as result ≡ definition.after_from setup.now anim.now }

@@ -7,7 +7,7 @@ ghost use Rattle.fix_span.specs.Frac.{frac_of, fraction_of, IsShare};
 use fix_span::Frac;
 use page_model::Jump;
 
-// How many jumps there are.
+/// How many jumps there are.
 fn jumps_of(count: u16, jump: Jump) -> u64
     requires { AreSteps count jump }
     ensures value { result ≡ definition.jumps_of count jump }
@@ -22,7 +22,7 @@ fn jumps_of(count: u16, jump: Jump) -> u64
     }
 }
 
-// How many of them are made at the start of the first step.
+/// How many of them are made at the start of the first step.
 fn first_jumps(jump: Jump) -> u64
     ensures value { result ≡ definition.first_jumps jump }
     ensures few { result ≤ 1 }
@@ -33,7 +33,7 @@ fn first_jumps(jump: Jump) -> u64
     }
 }
 
-// The jumps that the current step has made, over all jumps.
+/// The jumps that the current step has made, over all jumps.
 pub fn stepped(count: u16, jump: Jump, x: Frac) -> Frac
     requires steps { AreSteps count jump }
     requires share { IsShare x }
@@ -50,7 +50,7 @@ pub fn stepped(count: u16, jump: Jump, x: Frac) -> Frac
     }
 }
 
-// The step that the input lies in, from 0.
+/// The step that the input lies in, from 0.
 fn step_of(count: u16, x: Frac) -> u64
     requires few { count ≤ 1000 }
     requires share { IsShare x }

@@ -110,6 +110,7 @@ impl Encloses for Frac {
 // The two numerators of fractions over their common denominator, added or subtracted. The products wrap, since they
 // may be past 128 bits where the result is not.
 
+/// The sum of the numerators over the common denominator.
 fn cross_sum(num: i128, den: i128, other_num: i128, other_den: i128) -> i128
     requires { FitsSigned w128 (num *ℤ other_den +ℤ other_num *ℤ den) }
     ensures { result ≡ num *ℤ other_den +ℤ other_num *ℤ den }
@@ -119,6 +120,7 @@ fn cross_sum(num: i128, den: i128, other_num: i128, other_den: i128) -> i128
     first.wrapping_add(second)
 }
 
+/// Their difference.
 fn cross_difference(num: i128, den: i128, other_num: i128, other_den: i128) -> i128
     requires { FitsSigned w128 (num *ℤ other_den -ℤ other_num *ℤ den) }
     ensures { result ≡ num *ℤ other_den -ℤ other_num *ℤ den }

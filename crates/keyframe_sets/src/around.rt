@@ -9,14 +9,14 @@ use crate::share::Share;
 use crate::stops::{Stop, is_reached, stop_of};
 use page_model::{Keyframe, Prop};
 
-// The last stop that a progress has reached, and the first that it hasn't.
+/// The last stop that a progress has reached, and the first that it hasn't.
 #[derive(Clone, Copy)]
 pub struct Around {
     pub reached: Option<Stop>,
     pub ahead: Option<Stop>,
 }
 
-// With one more stop behind those that were seen.
+/// With one more stop behind those that were seen.
 fn with_stop(around: Around, stop: Stop, at: Share) -> Around
     requires apart { AreApart (share_as at) around }
     requires inside { IsInside stop }
@@ -37,7 +37,7 @@ fn with_stop(around: Around, stop: Stop, at: Share) -> Around
     }
 }
 
-// With one more keyframe, which may not name the property.
+/// With one more keyframe, which may not name the property.
 fn with_frame(around: Around, prop: Prop, frame: &Keyframe, at: Share) -> Around
     requires apart { AreApart (share_as at) around }
     requires inside { frame.now.offset ≤ 10000 }
@@ -51,7 +51,7 @@ fn with_frame(around: Around, prop: Prop, frame: &Keyframe, at: Share) -> Around
     }
 }
 
-// Those of a property among some keyframes.
+/// Those of a property among some keyframes.
 pub fn stops_around(frames: &[Keyframe], prop: Prop, at: Share) -> Around
     requires { All (λ frame. frame.offset ≤ 10000) frames.now }
     ensures around { IsAround (share_as at) (definition.stops_of prop frames.now) result }
@@ -67,7 +67,7 @@ pub fn stops_around(frames: &[Keyframe], prop: Prop, at: Share) -> Around
     around
 }
 
-// Whether there is a stop at all.
+/// Whether there is a stop at all.
 pub fn has_stops(around: Around) -> bool
     ensures { (at : _) (stops : List definition.Stop) → IsAround at stops around
         → result ≡ nat_lt 0 (length stops) }

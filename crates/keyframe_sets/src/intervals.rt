@@ -16,7 +16,7 @@ use crate::types::Interval;
 use fix_span::Frac;
 use page_model::{Easing, Keyframe, Prop, Scene, Value};
 
-// How far a progress is from one offset to a later one.
+/// How far a progress is from one offset to a later one.
 fn distance(from: u16, to: u16, at: Share) -> Frac
     requires rising { from < to }
     requires inside { to ≤ 10000 }
@@ -32,7 +32,7 @@ fn distance(from: u16, to: u16, at: Share) -> Frac
     }
 }
 
-// The way from a stop that is reached to one ahead.
+/// The way from a stop that is reached to one ahead.
 fn between(easing: Easing, at: Share, first: Stop, second: Stop) -> Interval
     requires reached { definition.is_reached (share_as at) (stop_as first) ≡ true }
     requires ahead { definition.is_reached (share_as at) (stop_as second) ≡ false }
@@ -50,7 +50,7 @@ fn between(easing: Easing, at: Share, first: Stop, second: Stop) -> Interval
     }
 }
 
-// The last stop that is reached: where there is none, the element's own value at 0%.
+/// The last stop that is reached: where there is none, the element's own value at 0%.
 fn first_stop(around: Around, own: Value, at: Share) -> Stop
     requires { AreApart (share_as at) around }
     ensures value { stop_as result ≡ unwrap_or (option_map stop_as around.reached) (start own) }
@@ -66,7 +66,7 @@ fn first_stop(around: Around, own: Value, at: Share) -> Stop
     }
 }
 
-// The first stop that isn't reached: where there is none, the element's own value at 100%.
+/// The first stop that isn't reached: where there is none, the element's own value at 100%.
 fn second_stop(around: Around, own: Value, at: Share) -> Stop
     requires { AreApart (share_as at) around }
     ensures value { stop_as result ≡ unwrap_or (option_map stop_as around.ahead) (finish own) }
@@ -83,7 +83,7 @@ fn second_stop(around: Around, own: Value, at: Share) -> Stop
     }
 }
 
-// The interval of a property in a set, or none where the set doesn't name it.
+/// The interval of a property in a set, or none where the set doesn't name it.
 pub fn interval_in_set(
     frames: &[Keyframe],
     prop: Prop,

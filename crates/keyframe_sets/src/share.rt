@@ -3,7 +3,7 @@ ghost use Rattle.std.specs.Prelude.{◌<◌, ◌≤◌, ◌^◌};
 
 use fix_span::Frac;
 
-// `num / den`, from 0 to 1.
+/// `num / den`, from 0 to 1.
 #[derive(Clone, Copy)]
 pub struct Share {
     pub num: u64,
@@ -18,6 +18,7 @@ impl Share {
     ghost use Rattle.fix_span.specs.Frac.{fraction_of, IsShare};
     ghost use Rattle.keyframe_sets.specs.Views.{share_as};
 
+    /// The share that a fraction from 0 to 1 is.
     pub fn of(x: Frac) -> Share
         requires share { IsShare x }
         requires denominator { x.den ≤ℤ pos (2 ^ 35) }

@@ -7,7 +7,7 @@ ghost use Rattle.keyframe_sets.specs.Views.{stop_as, share_as};
 use crate::share::Share;
 use page_model::{Easing, Keyframe, KeyframeSet, Prop, Setting, Value};
 
-// A stop: its offset in hundredths of a percent, its value, and the easing from there on where it has its own.
+/// A stop: its offset in hundredths of a percent, its value, and the easing from there on where it has its own.
 #[derive(Clone, Copy)]
 pub struct Stop {
     pub offset: u16,
@@ -15,6 +15,7 @@ pub struct Stop {
     pub easing: Option<Easing>,
 }
 
+/// A number for each property.
 fn number_of(prop: Prop) -> u8
     ensures { result ≡ definition.number_of prop }
 {
@@ -29,13 +30,14 @@ fn number_of(prop: Prop) -> u8
     }
 }
 
+/// Whether two properties are one.
 fn is_same(first: Prop, second: Prop) -> bool
     ensures { result ≡ definition.is_same first second }
 {
     number_of(first) == number_of(second)
 }
 
-// The value of a property among some settings.
+/// The value of a property among some settings.
 fn value_in(prop: Prop, values: &[Setting]) -> Option<Value>
     ensures { result ≡ definition.value_in prop values.now }
 {
@@ -45,7 +47,7 @@ fn value_in(prop: Prop, values: &[Setting]) -> Option<Value>
         .map(|setting| setting.value)
 }
 
-// The stop of a property at a keyframe that names it.
+/// The stop of a property at a keyframe that names it.
 pub fn stop_of(prop: Prop, frame: &Keyframe) -> Option<Stop>
     ensures { option_map stop_as result ≡ definition.stop_of prop frame.now }
 {
@@ -59,21 +61,21 @@ pub fn stop_of(prop: Prop, frame: &Keyframe) -> Option<Stop>
     }
 }
 
-// Whether a progress has reached a stop, which isn't the one at 100%.
+/// Whether a progress has reached a stop, which isn't the one at 100%.
 pub fn is_reached(at: Share, stop: Stop) -> bool
     ensures { result ≡ definition.is_reached (share_as at) (stop_as stop) }
 {
     stop.offset < 10000 && stop.offset as u64 * at.den <= 10000 * at.num
 }
 
-// Whether a keyframe names a property.
+/// Whether a keyframe names a property.
 fn has_stop(prop: Prop, frame: &Keyframe) -> bool
     ensures { result ≡ is_some (definition.stop_of prop frame.now) }
 {
     stop_of(prop, frame).is_some()
 }
 
-// Whether one of some keyframes names it.
+/// Whether one of some keyframes names it.
 fn some_names(prop: Prop, frames: &[Keyframe]) -> bool
     ensures { result ≡ list_any (λ frame. is_some (definition.stop_of prop frame)) frames.now }
 {
