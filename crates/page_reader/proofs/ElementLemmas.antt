@@ -1,6 +1,5 @@
 -- The attributes of a token that opens an element.
-use Rattle.std.proofs.Common.{◌≡◌, ℕ, Bool, true, false, cond, List, [], ◌∷◌, map, Option, Some, None, refl, sym, ap, ◌∙◌}
-use Rattle.std.specs.Prelude.{◌&&◌}
+use Rattle.std.proofs.Common.{◌≡◌, ℕ, Bool, List, Some, None, refl}
 use Rattle.page_model.specs.declared.element.Tag.{Tag}
 use Rattle.page_model.specs.declared.place.Place.{Place}
 use Rattle.text_scan.specs.HtmlTags.{Attribute}

@@ -1,13 +1,13 @@
 -- Reading from token to token, and the grammar: each says what the other says, of pages and of where they stop.
-use Rattle.std.proofs.Common.{◌≡◌, ℕ, zero, suc, ◌+◌, ◌<◌, ◌≤◌, Bool, true, false, cond, List, [], ◌∷◌, ◌++◌, length, take, map, Option, Some, None, Result, Ok, Err, refl, sym, ap, ◌∙◌, subst, arith}
+use Rattle.std.proofs.Common.{◌≡◌, ℕ, zero, suc, ◌+◌, ◌≤◌, Bool, true, false, List, [], ◌∷◌, ◌++◌, length, take, map, Option, Some, None, Ok, Err, refl, sym, ap, ◌∙◌, subst, arith}
 use Rattle.std.specs.Prelude.{is_some, unwrap_or}
 use Rattle.page_model.specs.declared.place.Place.{Place}
 use Rattle.text_scan.specs.HtmlText.{Word}
 use Rattle.page_reader.specs.PageSymbols.{symbol_of}
-use Rattle.page_reader.specs.PageGrammar.{HeadItem, meta, title, style, item_symbols, title_count, style_count, nowhere, sheet_of, box_symbols, Parts, body_symbols, page_symbols, SpellPage, BeginPage, StopAt, start_of}
-use Rattle.page_reader.specs.PageReading.{next_stage, seen_nothing, sheet_seen, ended, judged_next, judged}
+use Rattle.page_reader.specs.PageGrammar.{HeadItem, meta, title, style, item_symbols, title_count, style_count, nowhere, sheet_of, box_symbols, body_symbols, page_symbols, SpellPage, StopAt, start_of}
+use Rattle.page_reader.specs.PageReading.{next_stage, sheet_seen, ended, judged_next, judged}
 use Rattle.page_reader.specs.declared.symbol.Symbol.{Symbol}
-use Rattle.page_reader.specs.declared.symbol.Symbol.TheVariants.{Doctype, OpenHtml, OpenHead, OpenMeta, OpenTitle, OpenStyle, RawText, OpenBody, OpenBox, CloseHtml, CloseHead, CloseTitle, CloseStyle, CloseBody, CloseBox, Other}
+use Rattle.page_reader.specs.declared.symbol.Symbol.TheVariants.{Doctype, OpenHtml, OpenHead, OpenMeta, OpenTitle, OpenStyle, RawText, OpenBody, OpenBox, CloseHtml, CloseHead, CloseTitle, CloseStyle, CloseBody, CloseBox}
 use Rattle.page_reader.specs.declared.symbol.BoxTag.{BoxTag}
 use Rattle.page_reader.specs.declared.symbol.BoxTag.TheVariants.{Div, Span}
 use Rattle.page_reader.specs.declared.stage.Seen.{Seen}

@@ -2,3 +2,4 @@ pub mod AttributeLemmas
 pub mod GrammarLemmas
 pub mod ElementLemmas
 pub mod PageLemmas
+pub mod NameLemmas

@@ -1,5 +1,5 @@
 -- Bytes spell one page or cease to at one place, and not both; and each way to read them says which.
-use Rattle.std.proofs.Common.{◌≡◌, ℕ, zero, suc, ◌<◌, ◌≤◌, ◌⊎◌, List, [], ◌∷◌, length, take, map, Option, Some, None, Result, Ok, Err, refl, sym, ap, ◌∙◌, subst, inl, inr, arith}
+use Rattle.std.proofs.Common.{◌≡◌, ℕ, ◌<◌, ◌≤◌, List, [], ◌∷◌, length, take, map, Some, None, Ok, Err, refl, sym, ap, ◌∙◌, subst, inl, inr}
 use Rattle.std.specs.Prelude.{position, IsUtf8}
 use Rattle.std.specs.Str.{IsValidUpTo}
 use Rattle.std.proofs.lemmas.Bool.{cases_order}
@@ -16,7 +16,7 @@ use Rattle.page_reader.specs.PageSymbols.{symbol_of}
 use Rattle.page_reader.specs.PageGrammar.{SpellPage, StopAt, start_of}
 use Rattle.page_reader.specs.PageReading.{judged, told}
 use Rattle.page_reader.specs.PageElements.{elements_of}
-use Rattle.page_reader.specs.PageText.{is_control, Spells, IsControlAt, IsNoTokenAt, IsNoPageAt, IsBadAt, SpellsOnly, SpellsNone, SpellsMany, IsRead, IsPageFault}
+use Rattle.page_reader.specs.PageText.{is_control, Spells, IsNoPageAt, IsBadAt, SpellsOnly, SpellsNone, SpellsMany, IsRead, IsPageFault}
 use Rattle.page_reader.specs.declared.stage.Stage.TheVariants.{AtDoctype}
 use Rattle.page_reader.proofs.GrammarLemmas.{judged_ok, judged_err, rest_spell, one_sheet, stops_stop, one_stop}
 

@@ -1,5 +1,6 @@
 pub mod PageElements
 pub mod PageGrammar
+pub mod PageNames
 pub mod PageReading
 pub mod PageSymbols
 pub mod PageText

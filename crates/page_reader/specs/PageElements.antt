@@ -1,5 +1,5 @@
 -- The elements of a page: those of its opening tags that are a body's or a box's, with their ids, classes and style attributes.
-use Rattle.std.specs.Prelude.{ℕ, ◌-◌, Bool, not, ◌==◌, List, [], ◌∷◌, length, filter, find, map, Option, Some, None, codes}
+use Rattle.std.specs.Prelude.{ℕ, ◌-◌, Bool, not, ◌==◌, List, [], length, filter, find, Option, Some, None, codes}
 use Rattle.std.specs.Option.{option_map}
 use Rattle.std.specs.List.{filter_map, slice_split}
 use Rattle.page_model.specs.declared.place.Place.{Place}

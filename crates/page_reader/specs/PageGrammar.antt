@@ -1,11 +1,10 @@
 -- The grammar of a page: the tokens of a page are a function of its parts, and the place of a refusal is where the longest front that
 -- begins some page ends.
-use Rattle.std.specs.Prelude.{◌≡◌, ℕ, suc, zero, ◌+◌, ◌≤◌, List, [], ◌∷◌, ◌++◌, length, take, map, Option, Some, None}
+use Rattle.std.specs.Prelude.{◌≡◌, ℕ, suc, zero, ◌≤◌, List, [], ◌∷◌, ◌++◌, length, take}
 use Rattle.page_model.specs.declared.place.Place.{Place}
 use Rattle.text_scan.specs.HtmlText.{Word}
-use Rattle.page_reader.specs.PageSymbols.{symbol_of}
 use Rattle.page_reader.specs.declared.symbol.Symbol.{Symbol}
-use Rattle.page_reader.specs.declared.symbol.Symbol.TheVariants.{Doctype, OpenHtml, OpenHead, OpenMeta, OpenTitle, OpenStyle, RawText, OpenBody, OpenBox, CloseHtml, CloseHead, CloseTitle, CloseStyle, CloseBody, CloseBox, Other}
+use Rattle.page_reader.specs.declared.symbol.Symbol.TheVariants.{Doctype, OpenHtml, OpenHead, OpenMeta, OpenTitle, OpenStyle, RawText, OpenBody, OpenBox, CloseHtml, CloseHead, CloseTitle, CloseStyle, CloseBody, CloseBox}
 use Rattle.page_reader.specs.declared.symbol.BoxTag.{BoxTag}
 
 -- what may stand in the head: a `meta`, a title with the place of its text, a style with the place of its text

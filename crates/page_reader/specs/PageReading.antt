@@ -1,5 +1,5 @@
 -- How a page is read: from token to token, by what may stand next.
-use Rattle.std.specs.Prelude.{◌≡◌, ℕ, Bool, true, false, List, [], ◌∷◌, map, Option, Some, None, Result, Ok, Err, is_some, unwrap_or, if◌then◌else◌}
+use Rattle.std.specs.Prelude.{ℕ, true, false, List, [], ◌∷◌, Option, Some, None, Result, Ok, Err, is_some, unwrap_or, if◌then◌else◌}
 use Rattle.page_model.specs.declared.place.Place.{Place}
 use Rattle.text_scan.specs.HtmlText.{Word}
 use Rattle.text_scan.specs.declared.fault.ScanFault.{ScanFault}
@@ -9,7 +9,7 @@ use Rattle.page_reader.specs.declared.fault.PageFault.TheVariants.{BadText, NoMe
 use Rattle.page_reader.specs.PageSymbols.{symbol_of}
 use Rattle.page_reader.specs.PageGrammar.{nowhere}
 use Rattle.page_reader.specs.declared.symbol.Symbol.{Symbol}
-use Rattle.page_reader.specs.declared.symbol.Symbol.TheVariants.{Doctype, OpenHtml, OpenHead, OpenMeta, OpenTitle, OpenStyle, RawText, OpenBody, OpenBox, CloseHtml, CloseHead, CloseTitle, CloseStyle, CloseBody, CloseBox, Other}
+use Rattle.page_reader.specs.declared.symbol.Symbol.TheVariants.{Doctype, OpenHtml, OpenHead, OpenMeta, OpenTitle, OpenStyle, RawText, OpenBody, OpenBox, CloseHtml, CloseHead, CloseTitle, CloseStyle, CloseBody, CloseBox}
 use Rattle.page_reader.specs.declared.symbol.BoxTag.{BoxTag}
 use Rattle.page_reader.specs.declared.symbol.BoxTag.TheVariants.{Div, Span}
 use Rattle.page_reader.specs.declared.stage.Seen.{Seen}

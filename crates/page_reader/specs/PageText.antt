@@ -1,5 +1,5 @@
 -- Which bytes spell which page, and where other bytes cease to.
-use Rattle.std.specs.Prelude.{◌≡◌, ℕ, Bool, true, false, ◌⊎◌, ◌<◌, ◌≤◌, ◌==◌, ◌||◌, List, [], ◌∷◌, length, map, Option, Some, None, position, IsUtf8, nat_le}
+use Rattle.std.specs.Prelude.{◌≡◌, ℕ, Bool, ◌⊎◌, ◌<◌, ◌≤◌, ◌==◌, ◌||◌, List, length, map, Some, None, position, IsUtf8, nat_le}
 use Rattle.std.specs.Str.{IsValidUpTo}
 use Rattle.page_model.specs.declared.element.PageText.{PageText}
 use Rattle.text_scan.specs.Classes.{is_within}

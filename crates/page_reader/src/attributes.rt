@@ -1,9 +1,12 @@
 // What attributes a tag may have.
-ghost use Rattle.std.specs.Prelude.{◌≡◌, map};
-ghost use Rattle.std.specs.List.{list_all, list_any};
+ghost use Rattle.std.specs.Prelude.{◌≡◌, IfOk, map};
+ghost use Rattle.std.specs.List.{list_all};
 ghost use Rattle.text_scan.specs.HtmlShown.{shown_attribute};
-ghost use Rattle.page_reader.specs.PageSymbols.{are_box_attributes, are_distinct, are_html_attributes, are_meta_attributes, begins_with, is_box_attribute, is_named, names_viewport};
+ghost use Rattle.page_reader.specs.PageSymbols.{are_box_attributes, are_html_attributes, are_meta_attributes, begins_with, is_box_attribute, is_named, names_viewport};
 
+use crate::distinct::are_distinct;
+use page_model::NoMemory;
+use std::alloc::Global;
 use text_scan::{HtmlAttribute, is_word};
 
 /// Whether the attribute has this name, in any case.
@@ -57,38 +60,17 @@ fn are_all_of_boxes(attributes: &[HtmlAttribute<'_>]) -> bool
     true
 }
 
-/// Whether one of the attributes has this name, in any case.
-fn has_name(name: &[u8], attributes: &[HtmlAttribute<'_>]) -> bool
-    ensures { result ≡ list_any (is_named name.now) (map shown_attribute attributes.now) }
-{
-    'testing: for attribute in attributes {
-        if is_named(name, attribute) {
-            return true;
-        }
-    }
-    false
-}
-
-/// Whether no name stands twice among the attributes.
-fn are_distinct(attributes: &[HtmlAttribute<'_>]) -> bool
-    ensures { result ≡ are_distinct (map shown_attribute attributes.now) }
-{
-    'testing: for (i, attribute) in attributes.iter().enumerate() {
-        if has_name(attribute.name, &attributes[i + 1..]) {
-            return false;
-        }
-    }
-    true
-}
-
 /// Whether a box may have these attributes.
-pub(crate) fn are_box_attributes(attributes: &[HtmlAttribute<'_>]) -> bool
-    ensures { result ≡ are_box_attributes (map shown_attribute attributes.now) }
+pub(crate) fn are_box_attributes(
+    alloc: Global,
+    attributes: &[HtmlAttribute<'_>],
+) -> Result<bool, NoMemory>
+    ensures { IfOk result (λ may. may ≡ are_box_attributes (map shown_attribute attributes.now)) }
 {
     if !are_all_of_boxes(attributes) {
-        return false;
+        return Ok(false);
     }
-    are_distinct(attributes)
+    are_distinct(alloc, attributes)
 }
 
 /// Whether an `html` may have these attributes.

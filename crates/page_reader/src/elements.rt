@@ -140,7 +140,7 @@ fn element_of(alloc: Global, total: usize, word: &HtmlWord<'_>) -> Result<Option
     requires { total ≤ 1048576 }
     ensures { IfOk result (λ element. element ≡ element_of total (shown_word word.now)) }
 {
-    match element_tag(symbol_of(word)) {
+    match element_tag(symbol_of(alloc, word)?) {
         Some(tag) => {
             let element = element_with(alloc, total, tag, word.content.attributes.as_slice())?;
             Ok(Some(element))

@@ -12,6 +12,7 @@
 #![tactic(auto)]
 
 mod attributes;
+mod distinct;
 mod elements;
 mod fault;
 mod judging;

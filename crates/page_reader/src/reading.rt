@@ -101,7 +101,8 @@ fn read_words(alloc: Global, text: &[u8], words: &[HtmlWord<'_>]) -> Result<Page
     ensures ok { IfOk result (λ page. IsRead text.now page) }
     ensures err { IfErr result (λ fault. IsPageFault text.now fault) }
 {
-    match judge(words, text.len() as u32) {
+    let found = judge(alloc, words, text.len() as u32)?;
+    match found {
         Ok(sheet) => page_of(alloc, text, words, sheet),
         Err(at) => Err(PageFault::BadText { at }),
     }

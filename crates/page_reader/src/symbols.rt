@@ -1,11 +1,13 @@
 // What a token stands for.
-ghost use Rattle.std.specs.Prelude.{◌≡◌, map};
+ghost use Rattle.std.specs.Prelude.{◌≡◌, ◌&&◌, IfOk, map, not};
 ghost use Rattle.text_scan.specs.HtmlShown.{shown_attribute, shown_word};
-ghost use Rattle.page_reader.specs.PageSymbols.{closing_symbol, opening_symbol, symbol_of, where_good};
+ghost use Rattle.page_reader.specs.PageSymbols.{are_box_attributes, closing_symbol, opening_symbol, symbol_of, where_good};
 
 use crate::attributes::{are_box_attributes, are_html_attributes, are_meta_attributes};
 use crate::symbol::{BoxTag, Symbol};
 use crate::tag_name::{TagName, tag_named};
+use page_model::NoMemory;
+use std::alloc::Global;
 use text_scan::{HtmlAttribute, HtmlKind, HtmlWord};
 
 /// The symbol where a test holds.
@@ -15,26 +17,44 @@ fn where_good(good: bool, symbol: Symbol) -> Symbol
     if good { symbol } else { Symbol::Other }
 }
 
+/// The symbol of an opening tag that has box attributes.
+fn box_symbol(
+    alloc: Global,
+    attributes: &[HtmlAttribute<'_>],
+    slash: bool,
+    symbol: Symbol,
+) -> Result<Symbol, NoMemory>
+    ensures { IfOk result (λ s. s ≡ where_good (not slash && are_box_attributes (map shown_attribute attributes.now)) symbol) }
+{
+    if slash {
+        return Ok(Symbol::Other);
+    }
+    let good = are_box_attributes(alloc, attributes)?;
+    Ok(where_good(good, symbol))
+}
+
 /// What an opening tag stands for.
-fn opening_symbol(tag: TagName, attributes: &[HtmlAttribute<'_>], slash: bool) -> Symbol
-    ensures { result ≡ opening_symbol tag (map shown_attribute attributes.now) slash }
+fn opening_symbol(
+    alloc: Global,
+    tag: TagName,
+    attributes: &[HtmlAttribute<'_>],
+    slash: bool,
+) -> Result<Symbol, NoMemory>
+    ensures { IfOk result (λ symbol. symbol ≡ opening_symbol tag (map shown_attribute attributes.now) slash) }
 {
     match tag {
-        TagName::Html => where_good(!slash && are_html_attributes(attributes), Symbol::OpenHtml),
-        TagName::Head => where_good(!slash && attributes.is_empty(), Symbol::OpenHead),
-        TagName::Meta => where_good(are_meta_attributes(attributes), Symbol::OpenMeta),
-        TagName::Title => where_good(!slash && attributes.is_empty(), Symbol::OpenTitle),
-        TagName::Style => where_good(!slash && attributes.is_empty(), Symbol::OpenStyle),
-        TagName::Body => where_good(!slash && are_box_attributes(attributes), Symbol::OpenBody),
-        TagName::DivBox => where_good(
-            !slash && are_box_attributes(attributes),
-            Symbol::OpenBox(BoxTag::Div),
-        ),
-        TagName::SpanBox => where_good(
-            !slash && are_box_attributes(attributes),
-            Symbol::OpenBox(BoxTag::Span),
-        ),
-        TagName::Unknown => Symbol::Other,
+        TagName::Html => Ok(where_good(
+            !slash && are_html_attributes(attributes),
+            Symbol::OpenHtml,
+        )),
+        TagName::Head => Ok(where_good(!slash && attributes.is_empty(), Symbol::OpenHead)),
+        TagName::Meta => Ok(where_good(are_meta_attributes(attributes), Symbol::OpenMeta)),
+        TagName::Title => Ok(where_good(!slash && attributes.is_empty(), Symbol::OpenTitle)),
+        TagName::Style => Ok(where_good(!slash && attributes.is_empty(), Symbol::OpenStyle)),
+        TagName::Body => box_symbol(alloc, attributes, slash, Symbol::OpenBody),
+        TagName::DivBox => box_symbol(alloc, attributes, slash, Symbol::OpenBox(BoxTag::Div)),
+        TagName::SpanBox => box_symbol(alloc, attributes, slash, Symbol::OpenBox(BoxTag::Span)),
+        TagName::Unknown => Ok(Symbol::Other),
     }
 }
 
@@ -55,18 +75,19 @@ fn closing_symbol(tag: TagName) -> Symbol
 }
 
 /// What a token stands for.
-pub(crate) fn symbol_of(word: &HtmlWord<'_>) -> Symbol
-    ensures { result ≡ symbol_of (shown_word word.now) }
+pub(crate) fn symbol_of(alloc: Global, word: &HtmlWord<'_>) -> Result<Symbol, NoMemory>
+    ensures { IfOk result (λ symbol. symbol ≡ symbol_of (shown_word word.now)) }
 {
     let name = word.content.name;
     match word.content.kind {
-        HtmlKind::Doctype => Symbol::Doctype,
+        HtmlKind::Doctype => Ok(Symbol::Doctype),
         HtmlKind::Opening => opening_symbol(
+            alloc,
             tag_named(name),
             word.content.attributes.as_slice(),
             word.content.slash,
         ),
-        HtmlKind::Closing => closing_symbol(tag_named(name)),
-        HtmlKind::Raw => Symbol::RawText(word.place),
+        HtmlKind::Closing => Ok(closing_symbol(tag_named(name))),
+        HtmlKind::Raw => Ok(Symbol::RawText(word.place)),
     }
 }

@@ -41,7 +41,7 @@ fn fronts_of_a_page(rt: HostRuntime) {
 }
 
 #[test]
-fn where_pages_cease(rt: HostRuntime) {
+fn where_bytes_and_tokens_cease(rt: HostRuntime) {
     refused(&rt, b"<!DOC\xffTYPE html>", 5);
     refused(&rt, b"<!DO\x08CTYPE html>", 4);
     refused(&rt, b"</body>", 0);
@@ -50,6 +50,10 @@ fn where_pages_cease(rt: HostRuntime) {
         b"<div title=\"x\"><div/><!-- -- --><!DOCTYPE html>",
         21,
     );
+}
+
+#[test]
+fn where_pages_cease(rt: HostRuntime) {
     refused(
         &rt,
         b"<!DOCTYPE html><html><head><!--->--></style></head></span></html>",

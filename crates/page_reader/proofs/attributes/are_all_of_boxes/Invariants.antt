@@ -1,7 +1,7 @@
 use Rattle.std.proofs.Common.{◌≡◌, map, drop}
 use Rattle.std.specs.List.{list_all}
 use Rattle.text_scan.specs.HtmlShown.{shown_attribute}
-use Rattle.page_reader.specs.PageSymbols.{is_box_attribute, is_named}
+use Rattle.page_reader.specs.PageSymbols.{is_box_attribute}
 use Rattle.page_reader.proofs.attributes.are_all_of_boxes.Given as goal
 
 -- what is left decides
