@@ -14,6 +14,7 @@ use page_model::{Count, Direction, Easing, Fill, Name};
 use std::alloc::Global;
 use text_scan::CssToken;
 
+/// The names of `animation-name`: `None` for `none`.
 pub struct Names;
 
 impl Item for Names {
@@ -29,6 +30,7 @@ impl Item for Names {
     }
 }
 
+/// Times that are not negative, in milliseconds.
 pub struct Durations;
 
 impl Item for Durations {
@@ -41,6 +43,7 @@ impl Item for Durations {
     }
 }
 
+/// Times, in milliseconds.
 pub struct Delays;
 
 impl Item for Delays {
@@ -53,6 +56,7 @@ impl Item for Delays {
     }
 }
 
+/// Easings.
 pub struct Easings;
 
 impl Item for Easings {
@@ -65,6 +69,7 @@ impl Item for Easings {
     }
 }
 
+/// How often animations run.
 pub struct Counts;
 
 impl Item for Counts {
@@ -77,6 +82,7 @@ impl Item for Counts {
     }
 }
 
+/// Directions.
 pub struct Directions;
 
 impl Item for Directions {
@@ -89,6 +95,7 @@ impl Item for Directions {
     }
 }
 
+/// Fill modes.
 pub struct Fills;
 
 impl Item for Fills {
@@ -101,6 +108,7 @@ impl Item for Fills {
     }
 }
 
+/// Play states: whether they are `paused`.
 pub struct Plays;
 
 impl Item for Plays {

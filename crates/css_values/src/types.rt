@@ -1,6 +1,6 @@
 // The properties of the profile.
 
-/// A property that a style text may name.
+/// A property that a style text may name: its name is that of the variant, in lower case with `-` between words.
 #[derive(Clone, Copy, Debug, PartialEq, Eq)]
 pub enum Property {
     Position,
