@@ -1,0 +1,4 @@
+pub mod ChainLemmas
+pub mod CountLemmas
+pub mod RunLemmas
+pub mod TraceLemmas

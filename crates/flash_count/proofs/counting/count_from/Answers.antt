@@ -1,0 +1,13 @@
+use Rattle.std.proofs.Common.{◌≡◌, length, arith, subst}
+use Rattle.flash_count.specs.Counting.{IsCountBefore, Makes, MakesAt}
+use Rattle.flash_count.proofs.ChainLemmas.{change-within}
+use Rattle.flash_count.proofs.CountLemmas.{count-all}
+use Rattle.flash_count.proofs.counting.count_from.Goals as goal
+
+pub returns : goal.returns
+returns c =
+    let end : c.loop-later.later ≡ length c.args.tints.now = omega arith in
+    count-all (MakesAt c.args.opposing.first c.args.tints.now) (MakesAt c.args.opposing.second c.args.tints.now) c.args.place
+    (length c.args.tints.now) c.loop-later.count
+    (λ k change. (change-within (Makes c.args.opposing.first) c.args.tints.now c.args.place k change).1)
+    (rw end at c.loop-later.invariant)

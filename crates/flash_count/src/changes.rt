@@ -1,0 +1,70 @@
+// The changes between two tints of which chains are made.
+ghost use Rattle.std.specs.Prelude.{◌≡◌, ◌<◌, ◌↔◌, IsTrue, length};
+ghost use Rattle.flash_count.specs.Counting.{Makes, MakesAt};
+
+use page_model::Tint;
+use srgb_luma::{fall_possible, fall_sure, rise_possible, rise_sure};
+
+/// A change that two tints may make.
+#[derive(Clone, Copy, Debug, PartialEq, Eq)]
+pub(crate) enum Change {
+    PossibleRise,
+    PossibleFall,
+    SureRise,
+    SureFall,
+}
+
+/// Two opposing changes, and which of them comes first.
+#[derive(Clone, Copy)]
+pub(crate) struct Opposing {
+    pub(crate) first: Change,
+    pub(crate) second: Change,
+}
+
+impl Opposing {
+    /// The same two, the other one first.
+    pub(crate) fn turned(self) -> Opposing
+        ensures first { result.first ≡ self.second }
+        ensures second { result.second ≡ self.first }
+    {
+        Opposing {
+            first: self.second,
+            second: self.first,
+        }
+    }
+}
+
+/// The changes that some colours of two tints make.
+pub(crate) const POSSIBLE: Opposing = Opposing {
+    first: Change::PossibleRise,
+    second: Change::PossibleFall,
+};
+
+/// The changes that all colours of two tints make.
+pub(crate) const SURE: Opposing = Opposing {
+    first: Change::SureRise,
+    second: Change::SureFall,
+};
+
+impl Change {
+    /// Whether two tints make the change.
+    fn is_made(self, from: Tint, to: Tint) -> bool
+        ensures { IsTrue result ↔ Makes self from to }
+    {
+        match self {
+            Change::PossibleRise => rise_possible(from, to),
+            Change::PossibleFall => fall_possible(from, to),
+            Change::SureRise => rise_sure(from, to),
+            Change::SureFall => fall_sure(from, to),
+        }
+    }
+
+    /// Whether the tints at two places make the change.
+    pub(crate) fn is_made_at(self, tints: &[Tint], earlier: usize, later: usize) -> bool
+        requires earlier { earlier < length tints.now }
+        requires later { later < length tints.now }
+        ensures { IsTrue result ↔ MakesAt self tints.now earlier later }
+    {
+        self.is_made(tints[earlier], tints[later])
+    }
+}
