@@ -1,11 +1,11 @@
 -- A chain of places is a run of nine, with either change first.
-use Rattle.std.proofs.Common.{ℕ, zero, suc, ◌≡◌, ◌⊎◌, ◌+◌, ◌-◌, ◌<◌, ◌≤◌, List, [], ◌∷◌, length, get_or, arith, inl, inr, refl, subst, sym, ap}
-use Rattle.std.specs.Prelude.{Bool, true, false, Option, Some, None, IsTrue, ◌↔◌, is_some}
+use Rattle.std.proofs.Common.{ℕ, zero, suc, ◌≡◌, ◌⊎◌, ◌+◌, ◌-◌, ◌<◌, ◌≤◌, List, [], ◌∷◌, length, get_or, arith, inl, inr, refl, subst, ap}
+use Rattle.std.specs.Prelude.{true, false, Option, Some, None, IsTrue, ◌↔◌, is_some}
 use Rattle.std.specs.List.{All}
 use Rattle.std.specs.List.Sorted.{IsStrictlyIncreasing}
 use Rattle.std.proofs.lemmas.List.{get_or_default}
 use Rattle.std.proofs.lemmas.Option.{slice_get_within}
-use Rattle.page_model.specs.Flash.{Alternates, IsChain}
+use Rattle.page_model.specs.Flash.{Alternates}
 use Rattle.flash_count.specs.Chains.{HasChainOf, IsChainOf, IsChangeAt}
 use Rattle.flash_count.specs.Counting.{AreCounts, Begins, IsCount, IsFirstFull}
 use Rattle.flash_count.specs.Runs.{Follows, IsRun}
@@ -161,11 +161,13 @@ pub chain-second : {C : Type 0} (Up Down : C → C → Type 0) (items : List C) 
     → IsFirstFull one (length items) none → is_some none ≡ false → IsFirstFull other (length items) found
     → IsTrue (is_some found) ↔ HasChainOf Up Down items
 chain-second Up Down items one other (Some k) found are be full empty second = absurd (cc)
-chain-second Up Down items one other None None are be full empty second =
-    (λ some. absurd (cc), λ has. elim (run-chain Up Down items has.0 has.1) [
-      | inl run ↦ absurd (no_run-full Up Down items one are full has.0 run)
-      | inr run ↦ absurd (no_run-full Down Up items other be second has.0 run)
-    ])
+chain-second Up Down items one other None None are be full empty second = (
+  λ some. absurd (cc),
+  λ has. elim (run-chain Up Down items has.0 has.1) [
+    | inl run ↦ absurd (no_run-full Up Down items one are full has.0 run)
+    | inr run ↦ absurd (no_run-full Down Up items other be second has.0 run)
+  ],
+)
 chain-second Up Down items one other None (Some place) are be full empty second =
     (λ some. let run = chain-full Down Up items other (Some place) be second refl in (run.0, chain-run Up Down items run.0 (inr run.1)), λ has. refl)
 

@@ -1,5 +1,5 @@
 -- How a count grows by the places behind it, one after the other.
-use Rattle.std.proofs.Common.{ℕ, zero, suc, ◌≡◌, ◌+◌, ◌<◌, ◌≤◌, List, length, get_or, arith, inl, inr, subst, sym, get_or-set_same, get_or-set_other, ◌≢◌}
+use Rattle.std.proofs.Common.{ℕ, zero, suc, ◌≡◌, ◌+◌, ◌<◌, ◌≤◌, List, length, get_or, arith, inl, inr, subst, get_or-set_same, get_or-set_other}
 use Rattle.std.specs.Prelude.{min, slice_set}
 use Rattle.std.proofs.lemmas.Bool.{cases_lt, cases_eq}
 use Rattle.flash_count.specs.Counting.{AreCounts, Begins, IsCount, IsCountBefore}

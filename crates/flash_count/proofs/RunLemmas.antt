@@ -1,9 +1,9 @@
 -- Runs of places, and the first of them.
-use Rattle.std.proofs.Common.{ℕ, zero, suc, ◌≡◌, ◌⊎◌, ◌+◌, ◌<◌, ◌≤◌, List, [], ◌∷◌, length, get_or, arith, inl, inr, refl, subst, sym, ap}
+use Rattle.std.proofs.Common.{ℕ, zero, suc, ◌≡◌, ◌⊎◌, ◌<◌, ◌≤◌, List, [], ◌∷◌, length, arith, inl, inr, refl, subst, sym, ap}
 use Rattle.std.specs.Prelude.{Option, Some, None}
 use Rattle.std.proofs.lemmas.Bool.{cases_lt}
 use Rattle.page_model.specs.Flash.{IsNoLater}
-use Rattle.flash_count.specs.Counting.{Begins, IsCount}
+use Rattle.flash_count.specs.Counting.{Begins}
 use Rattle.flash_count.specs.Runs.{FirstOf, Follows, FollowsFirst, IsEarlier, IsFirstOf, IsRun}
 
 -- who can have so many changes has a run of them, and the other way round

@@ -1,9 +1,9 @@
 -- The first trace of a list of tints, place by place.
-use Rattle.std.proofs.Common.{ℕ, zero, suc, ◌≡◌, ◌⊎◌, ◌+◌, ◌<◌, ◌≤◌, List, [], ◌∷◌, length, get_or, arith, subst, add-one}
+use Rattle.std.proofs.Common.{ℕ, ◌≡◌, ◌+◌, ◌<◌, List, ◌∷◌, length, arith, subst, add-one}
 use Rattle.page_model.specs.declared.colour.Tint.{Tint}
 use Rattle.flash_count.specs.declared.changes.Opposing.{Opposing}
 use Rattle.flash_count.specs.Counting.{Begins, CountsSecond, Makes, MakesAt}
-use Rattle.flash_count.specs.Runs.{FollowsFirst, FollowsFirstOf, LeadsOn, LeadsOnFirst}
+use Rattle.flash_count.specs.Runs.{FollowsFirstOf, LeadsOn, LeadsOnFirst}
 use Rattle.flash_count.proofs.ChainLemmas.{change-within}
 use Rattle.flash_count.proofs.RunLemmas.{follows_first-more}
 
@@ -28,7 +28,7 @@ pub follows_first-leads : (opposing turned : Opposing) (tints : List Tint) (coun
 follows_first-leads opposing turned tints counts place next rest one other are few leads follows =
     follows_first-more (MakesAt opposing.first tints) (MakesAt opposing.second tints) place next rest leads.behind leads.leads.change
     (λ k behind change begins.
-      let inside = (change-within (Makes opposing.first) tints place k change).1 in
-      leads.first k behind inside
-      (record { change = change; enough = (are k (omega arith) inside).most (length rest) (omega arith) begins }))
+    let inside = (change-within (Makes opposing.first) tints place k change).1 in
+    leads.first k behind inside
+    (record { change = change; enough = (are k (omega arith) inside).most (length rest) (omega arith) begins }))
     (rw (one, other) at follows)

@@ -2,7 +2,6 @@
 -- general flash: more than three are too many). The changes may be between any two of the tints, neighbours or not.
 use Rattle.std.specs.Prelude.{ℕ, ◌≡◌, ◌-◌, Some, List, length, slice_get}
 use Rattle.page_model.specs.declared.colour.Tint.{Tint}
-use Rattle.page_model.specs.declared.witness.Kind.{Kind}
 use Rattle.page_model.specs.declared.witness.Kind.TheVariants.{General}
 use Rattle.page_model.specs.Change.{IsPossibleRise, IsPossibleFall, IsSureRise, IsSureFall}
 use Rattle.page_model.specs.Flash.{IsChain, IsNoLater}

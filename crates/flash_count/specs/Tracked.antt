@@ -28,3 +28,7 @@ pushed tint old = record {
 pub record HoldsRecent (rate held : ℕ) : Type 0 where
   pub rate_fits : rate ≤ 240
   pub window : held ≤ rate + 1
+
+-- after the pushes of a list
+abbrev pub tracked_after : ℕ → List Tint → Tracked
+tracked_after rate tints = record { rate = rate; count = length tints; recent = last_of (rate + 1) tints }

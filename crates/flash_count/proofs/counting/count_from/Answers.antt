@@ -1,5 +1,5 @@
-use Rattle.std.proofs.Common.{◌≡◌, length, arith, subst}
-use Rattle.flash_count.specs.Counting.{IsCountBefore, Makes, MakesAt}
+use Rattle.std.proofs.Common.{◌≡◌, length, arith}
+use Rattle.flash_count.specs.Counting.{Makes, MakesAt}
 use Rattle.flash_count.proofs.ChainLemmas.{change-within}
 use Rattle.flash_count.proofs.CountLemmas.{count-all}
 use Rattle.flash_count.proofs.counting.count_from.Goals as goal

@@ -1,6 +1,5 @@
-use Rattle.std.proofs.Common.{◌+◌, ◌<◌, ◌≤◌, arith}
 use Rattle.flash_count.specs.Counting.{MakesAt}
-use Rattle.flash_count.proofs.CountLemmas.{count_before-kept, count_before-raised}
+use Rattle.flash_count.proofs.CountLemmas.{count_before-raised}
 use Rattle.flash_count.proofs.counting.counted.Goals as goal
 
 pub returns : goal.returns

@@ -1,4 +1,4 @@
-use Rattle.std.proofs.Common.{◌≡◌, length, arith, append-nil}
+use Rattle.std.proofs.Common.{arith, append-nil}
 use Rattle.flash_count.specs.Counting.{Makes, MakesAt}
 use Rattle.flash_count.proofs.ChainLemmas.{first-full, no_run-full}
 use Rattle.flash_count.proofs.RunLemmas.{first-run}
