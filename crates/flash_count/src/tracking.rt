@@ -63,12 +63,12 @@ impl Tracker {
     {
         self.count += 1;
         let window = usize::from(self.rate) + 1;
-        if self.held == window {
-            self.recent[..window].rotate_left(1);
-            self.recent[window - 1] = tint;
-        } else {
+        if self.held < window {
             self.recent[self.held] = tint;
             self.held += 1;
+        } else {
+            self.recent[..window].rotate_left(1);
+            self.recent[window - 1] = tint;
         }
     }
 
