@@ -1,17 +1,10 @@
 pub mod ChainLaws
-pub mod CurveLaws
-pub mod EnclosureLaws
 pub mod FlagLaws
 pub mod FlashLaws
 pub mod LightLaws
 pub mod MarkLaws
-pub mod NestLaws
-pub mod SlotLaws
 pub mod SureLaws
-pub mod TintLaws
-pub mod WindowLaws
 pub mod WrongAreas
-pub mod WrongCurves
 pub mod WrongFlashes
 pub mod WrongLight
 pub mod WrongSure

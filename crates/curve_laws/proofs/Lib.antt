@@ -1,0 +1,12 @@
+pub mod CurveEndLemmas
+pub mod CurveHeights
+pub mod CurveLemmas
+pub mod CurvePoints
+pub mod EnclosureLemmas
+pub mod GreatestLemmas
+pub mod IntervalLemmas
+pub mod NumberLemmas
+pub mod ReachLemmas
+pub mod SignedLemmas
+pub mod SlotLemmas
+pub mod WrongCurveLemmas

@@ -1,0 +1,6 @@
+-- The law is proved in `proofs/EnclosureLemmas`.
+use Rattle.curve_laws.proofs.EnclosureLemmas as laws
+use Rattle.curve_laws.proofs.enclosure.reaches_nest.Goals as goal
+
+pub returns : goal.returns
+returns c = laws.reaches_nest

@@ -1,5 +1,0 @@
-use Rattle.definition_laws.proofs.computed.run_is_computed.Goals as goal
-use Rattle.definition_laws.proofs.ComputedLemmas.{run-computed}
-
-pub returns : goal.returns
-returns c = run-computed

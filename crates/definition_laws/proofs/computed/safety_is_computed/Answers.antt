@@ -1,5 +1,0 @@
-use Rattle.definition_laws.proofs.computed.safety_is_computed.Goals as goal
-use Rattle.definition_laws.proofs.ComputedLemmas.{safety-computed}
-
-pub returns : goal.returns
-returns c = safety-computed

@@ -1,5 +1,0 @@
-use Rattle.definition_laws.proofs.computed.shown_is_computed.Goals as goal
-use Rattle.definition_laws.proofs.RoundingLemmas.{shown-computed}
-
-pub returns : goal.returns
-returns c = shown-computed

@@ -1,5 +1,0 @@
-use Rattle.definition_laws.proofs.computed.slot_is_computed.Goals as goal
-use Rattle.definition_laws.proofs.RoundingLemmas.{slot-computed}
-
-pub returns : goal.returns
-returns c = slot-computed

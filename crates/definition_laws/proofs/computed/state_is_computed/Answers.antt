@@ -1,5 +1,0 @@
-use Rattle.definition_laws.proofs.computed.state_is_computed.Goals as goal
-use Rattle.definition_laws.proofs.ComputedLemmas.{state-computed}
-
-pub returns : goal.returns
-returns c = state-computed

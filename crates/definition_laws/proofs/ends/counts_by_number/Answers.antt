@@ -1,5 +1,0 @@
-use Rattle.definition_laws.proofs.ends.counts_by_number.Goals as goal
-use Rattle.definition_laws.proofs.NumberLemmas.{counts-by_number}
-
-pub returns : goal.returns
-returns c = counts-by_number

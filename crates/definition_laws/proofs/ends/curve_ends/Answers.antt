@@ -1,5 +1,0 @@
-use Rattle.definition_laws.proofs.ends.curve_ends.Goals as goal
-use Rattle.definition_laws.proofs.CurveEndLemmas.{curve-ends_law}
-
-pub returns : goal.returns
-returns c = curve-ends_law

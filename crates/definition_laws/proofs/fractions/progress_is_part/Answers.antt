@@ -1,5 +1,0 @@
-use Rattle.definition_laws.proofs.fractions.progress_is_part.Goals as goal
-use Rattle.definition_laws.proofs.FractionLemmas.{progress-part}
-
-pub returns : goal.returns
-returns c = progress-part

@@ -1,5 +1,0 @@
-use Rattle.definition_laws.proofs.fractions.stepped_is_part.Goals as goal
-use Rattle.definition_laws.proofs.FractionLemmas.{stepped-part}
-
-pub returns : goal.returns
-returns c = stepped-part

@@ -1,5 +1,0 @@
-use Rattle.definition_laws.proofs.intervals.interval_exists.Goals as goal
-use Rattle.definition_laws.proofs.StopLemmas.{interval-exists}
-
-pub returns : goal.returns
-returns c = interval-exists

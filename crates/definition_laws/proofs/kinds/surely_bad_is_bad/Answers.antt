@@ -1,5 +1,0 @@
-use Rattle.definition_laws.proofs.kinds.surely_bad_is_bad.Goals as goal
-use Rattle.definition_laws.proofs.WideKindLemmas.{surely_bad-bad}
-
-pub returns : goal.returns
-returns c = surely_bad-bad

@@ -1,5 +1,0 @@
-use Rattle.definition_laws.proofs.loose.exact_kind_is_exact.Goals as goal
-use Rattle.definition_laws.proofs.WideLemmas.{exact-exact}
-
-pub returns : goal.returns
-returns c = exact-exact

@@ -1,5 +1,0 @@
-use Rattle.definition_laws.proofs.loose.loose_run_exists.Goals as goal
-use Rattle.definition_laws.proofs.LooseLemmas.{loose_run-met}
-
-pub returns : goal.returns
-returns c = loose_run-met

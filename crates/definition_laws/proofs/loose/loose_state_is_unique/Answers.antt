@@ -1,5 +1,0 @@
-use Rattle.definition_laws.proofs.loose.loose_state_is_unique.Goals as goal
-use Rattle.definition_laws.proofs.LooseLemmas.{loose_state-unique}
-
-pub returns : goal.returns
-returns c = loose_state-unique

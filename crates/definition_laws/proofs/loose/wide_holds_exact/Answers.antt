@@ -1,5 +1,0 @@
-use Rattle.definition_laws.proofs.loose.wide_holds_exact.Goals as goal
-use Rattle.definition_laws.proofs.WideLemmas.{wide-holds}
-
-pub returns : goal.returns
-returns c = wide-holds

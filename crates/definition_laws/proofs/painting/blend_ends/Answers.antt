@@ -1,5 +1,0 @@
-use Rattle.definition_laws.proofs.painting.blend_ends.Goals as goal
-use Rattle.definition_laws.proofs.PaintLemmas.{blend-ends}
-
-pub returns : goal.returns
-returns c = blend-ends

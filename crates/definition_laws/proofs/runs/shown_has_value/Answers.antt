@@ -1,5 +1,0 @@
-use Rattle.definition_laws.proofs.runs.shown_has_value.Goals as goal
-use Rattle.definition_laws.proofs.RunLemmas.{shown-met}
-
-pub returns : goal.returns
-returns c = shown-met

@@ -1,5 +1,0 @@
-use Rattle.definition_laws.proofs.runs.slot_has_value.Goals as goal
-use Rattle.definition_laws.proofs.RunLemmas.{slot-met}
-
-pub returns : goal.returns
-returns c = slot-met

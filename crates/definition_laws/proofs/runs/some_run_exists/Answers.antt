@@ -1,5 +1,0 @@
-use Rattle.definition_laws.proofs.runs.some_run_exists.Goals as goal
-use Rattle.definition_laws.proofs.RunLemmas.{run-met}
-
-pub returns : goal.returns
-returns c = run-met

@@ -1,5 +1,0 @@
-use Rattle.definition_laws.proofs.runs.state_exists.Goals as goal
-use Rattle.definition_laws.proofs.RunLemmas.{state-met}
-
-pub returns : goal.returns
-returns c = state-met

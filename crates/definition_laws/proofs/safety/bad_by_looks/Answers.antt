@@ -1,5 +1,0 @@
-use Rattle.definition_laws.proofs.safety.bad_by_looks.Goals as goal
-use Rattle.definition_laws.proofs.SafetyLemmas.{bad-by_looks}
-
-pub returns : goal.returns
-returns c = bad-by_looks

@@ -1,5 +1,0 @@
-use Rattle.definition_laws.proofs.safety.blinking_is_bad.Goals as goal
-use Rattle.definition_laws.proofs.BlinkingLemmas.{blinking-bad}
-
-pub returns : goal.returns
-returns c = blinking-bad

@@ -1,5 +1,0 @@
-use Rattle.definition_laws.proofs.safety.still_is_safe.Goals as goal
-use Rattle.definition_laws.proofs.StillLemmas.{still-safe}
-
-pub returns : goal.returns
-returns c = still-safe

@@ -1,5 +1,0 @@
-use Rattle.definition_laws.proofs.slots.shown_is_unique.Goals as goal
-use Rattle.definition_laws.proofs.UniqueLemmas.{shown-unique}
-
-pub returns : goal.returns
-returns c = shown-unique

@@ -1,5 +1,0 @@
-use Rattle.definition_laws.proofs.slots.slot_is_unique.Goals as goal
-use Rattle.definition_laws.proofs.UniqueLemmas.{slot-unique}
-
-pub returns : goal.returns
-returns c = slot-unique

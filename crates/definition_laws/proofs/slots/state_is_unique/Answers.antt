@@ -1,5 +1,0 @@
-use Rattle.definition_laws.proofs.slots.state_is_unique.Goals as goal
-use Rattle.definition_laws.proofs.UniqueLemmas.{state-unique}
-
-pub returns : goal.returns
-returns c = state-unique

@@ -1,5 +1,0 @@
-use Rattle.definition_laws.proofs.tints.wide_tint_holds_colour.Goals as goal
-use Rattle.definition_laws.proofs.HeldTintLemmas.{wide_tint-holds}
-
-pub returns : goal.returns
-returns c = wide_tint-holds

@@ -1,5 +1,0 @@
-use Rattle.definition_laws.proofs.wrong.half_down_breaks.Goals as goal
-use Rattle.definition_laws.proofs.WrongSlotLemmas.{half_down-breaks}
-
-pub returns : goal.returns
-returns c = half_down-breaks

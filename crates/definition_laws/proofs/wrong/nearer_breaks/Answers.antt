@@ -1,5 +1,0 @@
-use Rattle.definition_laws.proofs.wrong.nearer_breaks.Goals as goal
-use Rattle.definition_laws.proofs.WrongSlotLemmas.{nearer-breaks}
-
-pub returns : goal.returns
-returns c = nearer-breaks

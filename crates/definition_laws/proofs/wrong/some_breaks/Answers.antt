@@ -1,5 +1,0 @@
-use Rattle.definition_laws.proofs.wrong.some_breaks.Goals as goal
-use Rattle.definition_laws.proofs.WrongSlotLemmas.{some-breaks}
-
-pub returns : goal.returns
-returns c = some-breaks

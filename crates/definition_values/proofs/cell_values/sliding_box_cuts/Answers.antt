@@ -1,7 +1,0 @@
--- The states compute, and the edges follow by cases on the frames.
-use Rattle.std.proofs.Common.{refl}
-use Rattle.definition_values.proofs.SlideLemmas.{run_is, columns_are, rows_are}
-use Rattle.definition_values.proofs.cell_values.sliding_box_cuts.Goals as goal
-
-pub returns : goal.returns
-returns c = record { run = run_is; cuts = record { columns = columns_are; rows = rows_are }; cells = refl }

@@ -1,6 +1,0 @@
--- The law is proved in `proofs/CurveLemmas`.
-use Rattle.flash_laws.proofs.CurveLemmas as laws
-use Rattle.flash_laws.proofs.curve.reach_is_antitone.Goals as goal
-
-pub returns : goal.returns
-returns c = laws.reach_is_antitone

@@ -1,6 +1,0 @@
--- The law is proved in `proofs/EnclosureLemmas`.
-use Rattle.flash_laws.proofs.EnclosureLemmas as laws
-use Rattle.flash_laws.proofs.enclosure.intervals_nest.Goals as goal
-
-pub returns : goal.returns
-returns c = laws.intervals_nest

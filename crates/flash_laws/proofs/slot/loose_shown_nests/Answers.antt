@@ -1,6 +1,0 @@
--- The law is proved in `proofs/SlotLemmas`.
-use Rattle.flash_laws.proofs.SlotLemmas as laws
-use Rattle.flash_laws.proofs.slot.loose_shown_nests.Goals as goal
-
-pub returns : goal.returns
-returns c = laws.loose_shown_nests

@@ -1,6 +1,0 @@
--- The law is proved in `proofs/TintLemmas`.
-use Rattle.flash_laws.proofs.TintLemmas as laws
-use Rattle.flash_laws.proofs.tint.tints_hold_colours.Goals as goal
-
-pub returns : goal.returns
-returns c = laws.tints_hold_colours

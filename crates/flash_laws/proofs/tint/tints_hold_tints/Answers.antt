@@ -1,6 +1,0 @@
--- The law is proved in `proofs/TintNestLemmas`.
-use Rattle.flash_laws.proofs.TintNestLemmas as laws
-use Rattle.flash_laws.proofs.tint.tints_hold_tints.Goals as goal
-
-pub returns : goal.returns
-returns c = laws.tints_hold_tints

@@ -1,0 +1,5 @@
+pub mod FractionLemmas
+pub mod ListLemmas
+pub mod SizeLemmas
+pub mod SplitLemmas
+pub mod StopLemmas

@@ -1,0 +1,9 @@
+pub mod DivisionLemmas
+pub mod ElapsedLemmas
+pub mod LeastLemmas
+pub mod PeriodLemmas
+pub mod RepeatLemmas
+pub mod SettledLemmas
+pub mod StateLemmas
+pub mod TermLemmas
+pub mod WindowLemmas

@@ -1,0 +1,4 @@
+pub mod CycleLaws
+pub mod ForeverLaws
+pub mod HorizonLaws
+pub mod WrongCycle

@@ -1,0 +1,8 @@
+mod CellLemmas
+mod LightTable
+mod PageLemmas
+mod RedLemmas
+mod RedTable
+mod SlideLemmas
+mod ValidLemmas
+pub mod WeightLemmas

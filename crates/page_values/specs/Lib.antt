@@ -1,0 +1,9 @@
+pub mod CascadeValues
+pub mod CellValues
+pub mod ChainValues
+pub mod LightValues
+pub mod PageValues
+pub mod RedValues
+pub mod SceneValues
+pub mod SlideValues
+pub mod WinnerLaws

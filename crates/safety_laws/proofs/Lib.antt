@@ -1,0 +1,6 @@
+pub mod BlinkingLemmas
+pub mod ComputedLemmas
+pub mod CourseLemmas
+pub mod RoundingLemmas
+pub mod SafetyLemmas
+pub mod StillLemmas

@@ -1,0 +1,3 @@
+pub mod ComputedLaws
+pub mod SafetyLaws
+pub mod StillLaws

@@ -1,0 +1,4 @@
+pub mod ExamplePageLemmas
+pub mod RunLemmas
+pub mod UniqueLemmas
+pub mod WrongSlotLemmas

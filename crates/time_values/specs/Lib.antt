@@ -1,0 +1,9 @@
+pub mod EasingValues
+pub mod Examples
+pub mod HorizonValues
+pub mod KeyframeValues
+pub mod PhaseLaws
+pub mod ProgressValues
+pub mod SlotValues
+pub mod WrongKeyframes
+pub mod WrongPhase

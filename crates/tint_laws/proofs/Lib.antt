@@ -1,0 +1,9 @@
+pub mod BlendLemmas
+pub mod CourseLemmas
+pub mod KindLemmas
+pub mod MarginLemmas
+pub mod NarrowLemmas
+pub mod NestLemmas
+pub mod TintLemmas
+pub mod TintNestLemmas
+pub mod WindowLemmas

@@ -1,0 +1,3 @@
+pub mod NestLaws
+pub mod TintLaws
+pub mod WindowLaws

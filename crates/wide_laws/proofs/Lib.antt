@@ -1,0 +1,6 @@
+pub mod DecidedLemmas
+pub mod HeldTintLemmas
+pub mod LooseLemmas
+pub mod PaintLemmas
+pub mod WideKindLemmas
+pub mod WideLemmas

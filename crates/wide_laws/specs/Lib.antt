@@ -1,0 +1,5 @@
+pub mod DecidedLaws
+pub mod HeldTintLaws
+pub mod LooseLaws
+pub mod PaintLaws
+pub mod WideLaws
