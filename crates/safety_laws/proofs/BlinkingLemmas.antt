@@ -1,5 +1,5 @@
 -- The blinking page is black and white in turn, in each run of exact states, and a whole rectangle of it is flagged.
-use Rattle.std.proofs.Common.{◌≡◌, ℕ, zero, suc, ◌+◌, ◌*◌, ◌<◌, ◌≤◌, ℤ, pos, neg_ℤ, ◌≤ℤ◌, Bool, true, cond, ◌&&◌, nat_lt, List, [], ◌∷◌, All, IfSome, get_or, arith, refl, ap, ◌∙◌, inl, lt-ltb, ltb-true}
+use Rattle.std.proofs.Common.{◌≡◌, ℕ, zero, suc, ◌+◌, ◌*◌, ◌<◌, ◌≤◌, pos, neg_ℤ, Bool, true, cond, ◌&&◌, nat_lt, List, [], ◌∷◌, All, IfSome, get_or, arith, refl, ap, ◌∙◌, inl, lt-ltb, ltb-true}
 use Rattle.std.specs.List.Sorted.{IsStrictlyIncreasing}
 use Rattle.std.proofs.lemmas.Bool.{agree_below_at, and_parts}
 use Rattle.std.proofs.lemmas.Int.{ints}
