@@ -1,3 +1,6 @@
 pub mod CheckWords
 pub mod Decimals
+pub mod LampPage
 pub mod OutcomeLemmas
+pub mod RefusalLemmas
+pub mod StyledPage

@@ -7,14 +7,14 @@ use Rattle.grey_lamp.specs.Page.{IsLampPage}
 use Rattle.grey_lamp.specs.declared.lamp.Lamp.{Lamp}
 use Rattle.flash_top.specs.Outcomes.{IsCheck, IsChecked, IsLampOutcome, IsOutcome, IsVerdict, IsVerdictOn}
 use Rattle.flash_top.specs.declared.outcome.Outcome.{Outcome}
-use Rattle.flash_top.specs.declared.outcome.Outcome.TheVariants.{WordsRefused, ReadFault, TooLong, NotYet, Pass, Fail, TooManyFrames, NoMemory}
+use Rattle.flash_top.specs.declared.outcome.Outcome.TheVariants.{WordsRefused, ReadFault, Refused, NotYet, Pass, Fail, TooManyFrames, NoMemory}
 
 -- what a lamp comes to, its page does
 pub verdict_of_lamp : (setup : Viewing) (bytes : List ℕ) (lamp : Lamp) (outcome : Outcome)
     → IsLampPage bytes lamp → IsLampOutcome setup lamp outcome → IsVerdict setup bytes outcome
 verdict_of_lamp setup bytes lamp WordsRefused page h = h
 verdict_of_lamp setup bytes lamp ReadFault page h = h
-verdict_of_lamp setup bytes lamp TooLong page h = absurd h
+verdict_of_lamp setup bytes lamp (Refused refusal) page h = absurd h
 verdict_of_lamp setup bytes lamp NotYet page h = absurd h
 verdict_of_lamp setup bytes lamp (Pass frames) page h = record { lamp = lamp; page = page; passes = h }
 verdict_of_lamp setup bytes lamp (Fail witness) page h = record { lamp = lamp; page = page; fails = h }
@@ -33,7 +33,8 @@ pub checked_file : (files : Option Files) (before after : ℕ) (name bytes : Lis
     → IsFile files name bytes → IsVerdict setup bytes outcome → IsChecked files before after name setup outcome
 checked_file files before after name bytes setup WordsRefused file h = h
 checked_file files before after name bytes setup ReadFault file h = absurd h
-checked_file files before after name bytes setup TooLong file h = verdict_on_file files name bytes setup TooLong file h
+checked_file files before after name bytes setup (Refused refusal) file h =
+    verdict_on_file files name bytes setup (Refused refusal) file h
 checked_file files before after name bytes setup NotYet file h = verdict_on_file files name bytes setup NotYet file h
 checked_file files before after name bytes setup (Pass frames) file h =
     verdict_on_file files name bytes setup (Pass frames) file h
@@ -48,7 +49,7 @@ pub outcome_of_check : (words : List (List ℕ)) (files : Option Files) (before 
     → IsCheck words files before after outcome → IsOutcome words files before after outcome
 outcome_of_check words files before after WordsRefused h = absurd h.checked
 outcome_of_check words files before after ReadFault h = h
-outcome_of_check words files before after TooLong h = h
+outcome_of_check words files before after (Refused refusal) h = h
 outcome_of_check words files before after NotYet h = h
 outcome_of_check words files before after (Pass frames) h = h
 outcome_of_check words files before after (Fail witness) h = h

@@ -1,5 +1,5 @@
 -- The cause of each outcome: the headline, over the pages that are judged today, which are grey lamp pages.
-use Rattle.std.specs.Prelude.{ℕ, ◌≡◌, ◌<◌, ◌≤◌, List, length, Option, IfSome, slice_get, Some, ⊤}
+use Rattle.std.specs.Prelude.{ℕ, ◌≡◌, List, Option, IfSome, slice_get, Some, ⊤}
 use Rattle.page_model.specs.Viewing.{Viewing}
 use Rattle.page_model.specs.declared.witness.Witness.{Witness}
 use Rattle.io_edge.specs.Faults.{Rose}
@@ -7,21 +7,18 @@ use Rattle.io_edge.specs.Files.{Files, bytes_of}
 use Rattle.grey_lamp.specs.Page.{IsLampPage, IsNoLampPage}
 use Rattle.grey_lamp.specs.Verdict.{Passes, Fails, IsTooLong}
 use Rattle.grey_lamp.specs.declared.lamp.Lamp.{Lamp}
+use Rattle.flash_top.specs.Refusals.{IsLoaded, IsRefusal}
 use Rattle.flash_top.specs.Words.{Spells}
 use Rattle.flash_top.specs.declared.outcome.Outcome.{Outcome}
-use Rattle.flash_top.specs.declared.outcome.Outcome.TheVariants.{WordsRefused, ReadFault, TooLong, NotYet, Pass, Fail, TooManyFrames, NoMemory}
+use Rattle.flash_top.specs.declared.outcome.Outcome.TheVariants.{WordsRefused, ReadFault, Refused, NotYet, Pass, Fail, TooManyFrames, NoMemory}
 use Rattle.flash_top.specs.declared.words.Command.{Command}
 use Rattle.flash_top.specs.declared.words.Command.TheVariants.{Check}
-
--- a page has at most so many bytes
-abbrev pub page_limit : ℕ
-page_limit = 1048576
 
 -- what a lamp comes to, and why
 abbrev pub IsLampOutcome : Viewing → Lamp → Outcome → Type 0
 IsLampOutcome setup lamp WordsRefused = ⊥
 IsLampOutcome setup lamp ReadFault = ⊥
-IsLampOutcome setup lamp TooLong = ⊥
+IsLampOutcome setup lamp (Refused refusal) = ⊥
 IsLampOutcome setup lamp NotYet = ⊥
 IsLampOutcome setup lamp (Pass frames) = Passes setup lamp frames
 IsLampOutcome setup lamp (Fail witness) = Fails setup lamp witness
@@ -46,12 +43,17 @@ pub record IsPastFrames (setup : Viewing) (bytes : List ℕ) : Type 0 where
   pub page : IsLampPage bytes lamp
   pub too_long : IsTooLong setup lamp
 
+-- The bytes are a page that is loaded, and it is none that is judged yet.
+pub record IsUnjudged (bytes : List ℕ) : Type 0 where
+  pub loaded : IsLoaded bytes
+  pub no_lamp : IsNoLampPage bytes
+
 -- what the bytes of a page come to, and why
 abbrev pub IsVerdict : Viewing → List ℕ → Outcome → Type 0
 IsVerdict setup bytes WordsRefused = ⊥
 IsVerdict setup bytes ReadFault = ⊥
-IsVerdict setup bytes TooLong = page_limit < length bytes
-IsVerdict setup bytes NotYet = (length bytes ≤ page_limit) × IsNoLampPage bytes
+IsVerdict setup bytes (Refused refusal) = IsRefusal bytes refusal
+IsVerdict setup bytes NotYet = IsUnjudged bytes
 IsVerdict setup bytes (Pass frames) = IsPass setup bytes frames
 IsVerdict setup bytes (Fail witness) = IsFail setup bytes witness
 IsVerdict setup bytes TooManyFrames = IsPastFrames setup bytes
@@ -65,7 +67,7 @@ IsVerdictOn files name setup outcome = IfSome files (λ files. IsVerdict setup (
 abbrev pub IsChecked : Option Files → ℕ → ℕ → List ℕ → Viewing → Outcome → Type 0
 IsChecked files before after name setup WordsRefused = ⊥
 IsChecked files before after name setup ReadFault = Rose before after
-IsChecked files before after name setup TooLong = IsVerdictOn files name setup TooLong
+IsChecked files before after name setup (Refused refusal) = IsVerdictOn files name setup (Refused refusal)
 IsChecked files before after name setup NotYet = IsVerdictOn files name setup NotYet
 IsChecked files before after name setup (Pass frames) = IsVerdictOn files name setup (Pass frames)
 IsChecked files before after name setup (Fail witness) = IsVerdictOn files name setup (Fail witness)
@@ -89,7 +91,7 @@ SpellNothing words = (command : Command) → Spells words command → ⊥
 abbrev pub IsOutcome : List (List ℕ) → Option Files → ℕ → ℕ → Outcome → Type 0
 IsOutcome words files before after WordsRefused = SpellNothing words
 IsOutcome words files before after ReadFault = IsCheck words files before after ReadFault
-IsOutcome words files before after TooLong = IsCheck words files before after TooLong
+IsOutcome words files before after (Refused refusal) = IsCheck words files before after (Refused refusal)
 IsOutcome words files before after NotYet = IsCheck words files before after NotYet
 IsOutcome words files before after (Pass frames) = IsCheck words files before after (Pass frames)
 IsOutcome words files before after (Fail witness) = IsCheck words files before after (Fail witness)

@@ -1,16 +1,24 @@
 -- What is written for each outcome, and the status that the run ends with.
 use Rattle.std.specs.Prelude.{ℕ, ◌≡◌, ◌⊎◌, List, [], ◌∷◌, ◌++◌, codes, decimal}
 use Rattle.flash_top.specs.declared.outcome.Outcome.{Outcome}
-use Rattle.flash_top.specs.declared.outcome.Outcome.TheVariants.{WordsRefused, ReadFault, TooLong, NotYet, Pass, Fail, TooManyFrames, NoMemory}
+use Rattle.flash_top.specs.declared.outcome.Outcome.TheVariants.{WordsRefused, ReadFault, Refused, NotYet, Pass, Fail, TooManyFrames, NoMemory}
+use Rattle.flash_top.specs.declared.refusal.PageRefusal.{PageRefusal}
+use Rattle.flash_top.specs.declared.refusal.PageRefusal.TheVariants.{TooLong, BadText, TooManyBoxes}
 use Rattle.flash_top.specs.declared.status.Status.{Status}
 use Rattle.flash_top.specs.declared.status.Status.TheVariants as status
 use Rattle.flash_witness.specs.WitnessText.{witness_text}
+
+-- the line for a page that is refused, without its end; places are byte places from 0 on
+abbrev pub refusal_line : PageRefusal → List ℕ
+refusal_line TooLong = codes "page: too long"
+refusal_line (BadText place) = codes "page: bad text at " ++ decimal place
+refusal_line TooManyBoxes = codes "page: more than 64 boxes"
 
 -- the line for an outcome, without its end
 abbrev pub line_of : Outcome → List ℕ
 line_of WordsRefused = codes "words: not understood"
 line_of ReadFault = codes "cannot read"
-line_of TooLong = codes "page: too long"
+line_of (Refused refusal) = refusal_line refusal
 line_of NotYet = codes "page: not yet"
 line_of (Pass frames) = codes "pass: frames " ++ decimal frames
 line_of (Fail witness) = witness_text witness
@@ -25,18 +33,24 @@ text_of outcome = line_of outcome ++ 10 ∷ []
 abbrev pub status_of : Outcome → Status
 status_of WordsRefused = status.Words
 status_of ReadFault = status.ReadFault
-status_of TooLong = status.Page
+status_of (Refused refusal) = status.Page
 status_of NotYet = status.Page
 status_of (Pass frames) = status.Pass
 status_of (Fail witness) = status.Bad
 status_of TooManyFrames = status.Undecided
 status_of NoMemory = status.NoMemory
 
+-- a refusal has a place to tell; the text of each other one is always the same
+abbrev pub HasOwnLine : PageRefusal → Type 0
+HasOwnLine TooLong = ⊥
+HasOwnLine (BadText place) = Unit {0}
+HasOwnLine TooManyBoxes = ⊥
+
 -- an outcome has numbers or a witness to tell; the text of each other one is always the same
 abbrev pub HasOwnText : Outcome → Type 0
 HasOwnText WordsRefused = ⊥
 HasOwnText ReadFault = ⊥
-HasOwnText TooLong = ⊥
+HasOwnText (Refused refusal) = HasOwnLine refusal
 HasOwnText NotYet = ⊥
 HasOwnText (Pass frames) = Unit {0}
 HasOwnText (Fail witness) = Unit {0}

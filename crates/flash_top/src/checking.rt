@@ -1,10 +1,13 @@
-// From words to what they come to: the page is read, and judged.
+// From words to what they come to: the page is read, loaded and judged.
 ghost use Rattle.std.specs.Prelude.{◌≡◌, ◌≤◌, length, map, string_bytes};
 ghost use Rattle.flash_top.specs.Words.{Spells};
-ghost use Rattle.flash_top.specs.Outcomes.{IsChecked, IsLampOutcome, IsOutcome, IsVerdict, MayOpenPage, page_limit};
+ghost use Rattle.flash_top.specs.Outcomes.{IsChecked, IsLampOutcome, IsOutcome, IsVerdict, MayOpenPage};
+ghost use Rattle.flash_top.specs.Refusals.{IsLoaded, page_limit};
 
+use crate::loading::{LoadFault, load};
 use crate::outcome::Outcome;
 use crate::reading::command;
+use crate::refusal::PageRefusal;
 use crate::words::Command;
 use grey_lamp::{Lamp, LampVerdict, judge_lamp, lamp_of};
 use io_edge::{ReadAllFault, Source, read_all};
@@ -44,7 +47,7 @@ fn check<S: Source>(alloc: Global, name: &str, setup: Setup, source: &mut S) -> 
     match read_all(alloc, source, name, PAGE_LIMIT) {
         Ok(bytes) => verdict_on(alloc, bytes.as_slice(), setup),
         Err(ReadAllFault::ReadFault) => Outcome::ReadFault,
-        Err(ReadAllFault::TooLong) => Outcome::TooLong,
+        Err(ReadAllFault::TooLong) => Outcome::Refused(PageRefusal::TooLong),
         Err(ReadAllFault::NoMemory) => Outcome::NoMemory,
     }
 }
@@ -52,6 +55,18 @@ fn check<S: Source>(alloc: Global, name: &str, setup: Setup, source: &mut S) -> 
 /// What the bytes of a page come to, of which there aren't too many.
 fn verdict_on(alloc: Global, bytes: &[u8], setup: Setup) -> Outcome
     requires { length bytes.now ≤ page_limit }
+    ensures { IsVerdict setup bytes.now result }
+{
+    match load(alloc, bytes) {
+        Ok(_) => verdict_on_page(alloc, bytes, setup),
+        Err(LoadFault::Refused(refusal)) => Outcome::Refused(refusal),
+        Err(LoadFault::NoMemory) => Outcome::NoMemory,
+    }
+}
+
+/// What the bytes of a page come to that is loaded.
+fn verdict_on_page(alloc: Global, bytes: &[u8], setup: Setup) -> Outcome
+    requires { IsLoaded bytes.now }
     ensures { IsVerdict setup bytes.now result }
 {
     match lamp_of(alloc, bytes) {

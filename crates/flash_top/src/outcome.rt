@@ -1,4 +1,5 @@
 // What a run finds out, before it is told.
+use crate::refusal::PageRefusal;
 use page_model::{NoMemory, Witness};
 
 /// What the words, the page and its judgement come to.
@@ -8,8 +9,8 @@ pub enum Outcome {
     WordsRefused,
     /// A file can't be read.
     ReadFault,
-    /// The page has more than 1,048,576 bytes.
-    TooLong,
+    /// The page is refused.
+    Refused(PageRefusal),
     /// The page is none that can be judged yet.
     NotYet,
     /// No window is bad, from the first frame on for ever; so many frames were needed to know it.

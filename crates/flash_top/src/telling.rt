@@ -1,9 +1,10 @@
 // The text and the status of an outcome, and how they are told.
-ghost use Rattle.std.specs.Prelude.{◌≡◌, IfOk, MatchOption};
+ghost use Rattle.std.specs.Prelude.{◌≡◌, ◌++◌, ◌∷◌, [], IfOk, MatchOption};
 ghost use Rattle.flash_top.specs.Telling.{Tells};
-ghost use Rattle.flash_top.specs.Texts.{HasOwnText, line_of, status_of, text_of};
+ghost use Rattle.flash_top.specs.Texts.{HasOwnLine, HasOwnText, line_of, refusal_line, status_of, text_of};
 
 use crate::outcome::Outcome;
+use crate::refusal::PageRefusal;
 use crate::status::Status;
 use flash_witness::to_text;
 use io_edge::{Sink, write_all};
@@ -17,11 +18,35 @@ pub(crate) fn status(outcome: &Outcome) -> Status
     match outcome {
         Outcome::WordsRefused => Status::Words,
         Outcome::ReadFault => Status::ReadFault,
-        Outcome::TooLong | Outcome::NotYet => Status::Page,
+        Outcome::Refused(_) | Outcome::NotYet => Status::Page,
         Outcome::Pass { .. } => Status::Pass,
         Outcome::Fail(_) => Status::Bad,
         Outcome::TooManyFrames => Status::Undecided,
         Outcome::NoMemory => Status::NoMemory,
+    }
+}
+
+/// The text of a refusal whose words are always the same.
+fn fixed_line(refusal: &PageRefusal) -> Option<&'static [u8]>
+    ensures { MatchOption result (HasOwnLine refusal.now) (λ text. text.now ≡ refusal_line refusal.now ++ 10 ∷ []) }
+{
+    match refusal {
+        PageRefusal::TooLong => Some(b"page: too long\n".as_slice()),
+        PageRefusal::BadText { .. } => None,
+        PageRefusal::TooManyBoxes => Some(b"page: more than 64 boxes\n".as_slice()),
+    }
+}
+
+/// The text of a refusal that has a place to tell, without its end.
+fn own_line(alloc: Global, refusal: &PageRefusal) -> Result<Vec<u8>, NoMemory>
+    requires { HasOwnLine refusal.now }
+    ensures { IfOk result (λ text. text.items ≡ refusal_line refusal.now) }
+{
+    match refusal {
+        PageRefusal::BadText { at } => {
+            Ok(format!(in alloc; "page: bad text at {at}")?.into_bytes())
+        }
+        _ => unreachable!(),
     }
 }
 
@@ -32,7 +57,7 @@ pub(crate) fn fixed_text(outcome: &Outcome) -> Option<&'static [u8]>
     match outcome {
         Outcome::WordsRefused => Some(b"words: not understood\n".as_slice()),
         Outcome::ReadFault => Some(b"cannot read\n".as_slice()),
-        Outcome::TooLong => Some(b"page: too long\n".as_slice()),
+        Outcome::Refused(refusal) => fixed_line(refusal),
         Outcome::NotYet => Some(b"page: not yet\n".as_slice()),
         Outcome::Pass { .. } | Outcome::Fail(_) => None,
         Outcome::TooManyFrames => Some(b"undecided: more than 100000 frames\n".as_slice()),
@@ -46,6 +71,7 @@ pub(crate) fn own_text(alloc: Global, outcome: &Outcome) -> Result<Vec<u8>, NoMe
     ensures { IfOk result (λ text. text.items ≡ text_of outcome.now) }
 {
     let mut text = match outcome {
+        Outcome::Refused(refusal) => own_line(alloc, refusal)?,
         Outcome::Pass { frames } => format!(in alloc; "pass: frames {frames}")?.into_bytes(),
         Outcome::Fail(witness) => to_text(alloc, witness)?,
         _ => unreachable!(),
