@@ -30,7 +30,7 @@ fn words_that_are_no_command(rt: HostRuntime) -> Result<(), Fail> {
 fn pages_that_are_refused(rt: HostRuntime) -> Result<(), Fail> {
     let empty = run_on(rt.alloc(), CHECK, b"")?;
     assert_eq!(rt; empty.status, Status::Page);
-    assert_eq!(rt; empty.text.as_slice(), b"page: not yet\n".as_slice());
+    assert_eq!(rt; empty.text.as_slice(), b"page: bad text at 0\n".as_slice());
 
     let spaces = vec![in rt.alloc(); b' '; 1_048_577]?;
     let long = run_on(rt.alloc(), CHECK, spaces.as_slice())?;

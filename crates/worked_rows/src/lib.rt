@@ -7,8 +7,12 @@
 #![tactic(auto)]
 
 #[cfg(test)]
+mod banner;
+#[cfg(test)]
 mod edge;
 #[cfg(test)]
 mod lamps;
+#[cfg(test)]
+mod pages;
 #[cfg(test)]
 mod running;
