@@ -1,3 +1,4 @@
+pub mod AnswerLemmas
 pub mod CheckWords
 pub mod Decimals
 pub mod LampPage
