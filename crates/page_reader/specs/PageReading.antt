@@ -1,5 +1,6 @@
 -- How a page is read: from token to token, by what may stand next.
-use Rattle.std.specs.Prelude.{ℕ, true, false, List, [], ◌∷◌, Option, Some, None, Result, Ok, Err, is_some, unwrap_or, if◌then◌else◌}
+use Rattle.std.specs.Prelude.{◌≡◌, ℕ, true, false, List, [], ◌∷◌, Option, Some, None, Result, Ok, Err, is_some, unwrap_or, if◌then◌else◌}
+use Rattle.page_model.specs.declared.element.PageText.{PageText}
 use Rattle.page_model.specs.declared.place.Place.{Place}
 use Rattle.text_scan.specs.HtmlText.{Word}
 use Rattle.text_scan.specs.declared.fault.ScanFault.{ScanFault}
@@ -7,6 +8,7 @@ use Rattle.text_scan.specs.declared.fault.ScanFault.TheVariants.{BadToken, NoMem
 use Rattle.page_reader.specs.declared.fault.PageFault.{PageFault}
 use Rattle.page_reader.specs.declared.fault.PageFault.TheVariants.{BadText, NoMemory}
 use Rattle.page_reader.specs.PageSymbols.{symbol_of}
+use Rattle.page_reader.specs.PageElements.{elements_of}
 use Rattle.page_reader.specs.PageGrammar.{nowhere}
 use Rattle.page_reader.specs.declared.symbol.Symbol.{Symbol}
 use Rattle.page_reader.specs.declared.symbol.Symbol.TheVariants.{Doctype, OpenHtml, OpenHead, OpenMeta, OpenTitle, OpenStyle, RawText, OpenBody, OpenBox, CloseHtml, CloseHead, CloseTitle, CloseStyle, CloseBody, CloseBox}
@@ -106,6 +108,11 @@ judged_next more place (Some stage) = more stage
 abbrev pub judged : ℕ → Stage → List Word → Result Place ℕ
 judged total stage [] = ended total stage
 judged total stage (word ∷ words) = judged_next (λ next. judged total next words) word.place.from (next_stage stage (symbol_of word))
+
+-- the page of these tokens, with all its elements, or where they cease to be a page's
+abbrev pub IsJudged : ℕ → List Word → Result PageText ℕ → Type 0
+IsJudged total words (Ok page) = (judged total AtDoctype words ≡ Ok page.sheet) × (page.elements ≡ elements_of total words)
+IsJudged total words (Err place) = judged total AtDoctype words ≡ Err place
 
 -- a fault of the tokens as one of the page
 abbrev pub told : ScanFault → PageFault

@@ -4,13 +4,12 @@ ghost use Rattle.std.specs.List.{slice_split};
 ghost use Rattle.std.specs.Option.{option_map};
 ghost use Rattle.text_scan.specs.Classes.{is_white};
 ghost use Rattle.text_scan.specs.HtmlShown.{shown_attribute, shown_word};
-ghost use Rattle.page_reader.specs.PageElements.{classes_in, element_of, element_tag, element_with, elements_of, runs_in, style_in, value_of};
-ghost use Rattle.page_reader.specs.PageSymbols.{is_named};
+ghost use Rattle.page_reader.specs.PageElements.{classes_in, element_of, element_tag, element_with, runs_in, style_in, value_of};
+ghost use Rattle.page_reader.specs.PageSymbols.{is_named, symbol_of};
 
 use crate::attributes::is_named;
 use crate::stage::NOWHERE;
 use crate::symbol::{BoxTag, Symbol};
-use crate::symbols::symbol_of;
 use page_model::{Element, List, Name, NoMemory, Place, Tag};
 use std::alloc::{AllocError, Global};
 use text_scan::{HtmlAttribute, HtmlWord};
@@ -134,35 +133,23 @@ fn element_tag(symbol: Symbol) -> Option<Tag>
     }
 }
 
-/// The element that a token opens, if it does.
+/// The element that a token opens, if it does; the symbol is the token's.
 #[tactic(auto, using(crate::proofs::ElementLemmas::attributes_shown))]
-fn element_of(alloc: Global, total: usize, word: &HtmlWord<'_>) -> Result<Option<Element>, NoMemory>
-    requires { total ≤ 1048576 }
+pub(crate) fn element_of(
+    alloc: Global,
+    total: usize,
+    symbol: Symbol,
+    word: &HtmlWord<'_>,
+) -> Result<Option<Element>, NoMemory>
+    requires size { total ≤ 1048576 }
+    requires symbol { symbol ≡ symbol_of (shown_word word.now) }
     ensures { IfOk result (λ element. element ≡ element_of total (shown_word word.now)) }
 {
-    match element_tag(symbol_of(alloc, word)?) {
+    match element_tag(symbol) {
         Some(tag) => {
             let element = element_with(alloc, total, tag, word.content.attributes.as_slice())?;
             Ok(Some(element))
         }
         None => Ok(None),
     }
-}
-
-/// The elements that the tokens of a text of `total` bytes open.
-pub(crate) fn elements_of(
-    alloc: Global,
-    total: usize,
-    words: &[HtmlWord<'_>],
-) -> Result<List<Element>, NoMemory>
-    requires { total ≤ 1048576 }
-    ensures { IfOk result (λ elements. elements ≡ elements_of total (map shown_word words.now)) }
-{
-    let mut elements = List::new(alloc);
-    'opening: for word in words {
-        if let Some(element) = element_of(alloc, total, word)? {
-            elements.push(element)?;
-        }
-    }
-    Ok(elements)
 }

@@ -1,16 +1,14 @@
 // From the bytes of a page to its elements.
-ghost use Rattle.std.specs.Prelude.{◌≡◌, ◌<◌, ◌≤◌, IfErr, IfNone, IfOk, IfSome, IsUtf8, MatchOption, length, map, position};
+ghost use Rattle.std.specs.Prelude.{◌≡◌, ◌<◌, ◌≤◌, IfErr, IfNone, IfOk, IfSome, IsUtf8, MatchOption, Ok, length, map, position};
 ghost use Rattle.std.specs.Str.{IsValidUpTo};
 ghost use Rattle.text_scan.specs.HtmlShown.{shown_word};
 ghost use Rattle.text_scan.specs.HtmlText.{AreWordsOf};
-ghost use Rattle.page_reader.specs.PageReading.{judged, told};
+ghost use Rattle.page_reader.specs.PageReading.{IsJudged, told};
 ghost use Rattle.page_reader.specs.PageText.{IsPageFault, IsRead, SpellsNone, is_control};
-ghost use Rattle.page_reader.specs.declared.stage.Stage.TheVariants.{AtDoctype};
 
-use crate::elements::elements_of;
 use crate::fault::PageFault;
 use crate::judging::judge;
-use page_model::{PageText, Place};
+use page_model::PageText;
 use std::alloc::Global;
 use text_scan::{HtmlWord, ScanFault, scan_words};
 
@@ -68,27 +66,24 @@ fn bad_byte(text: &[u8]) -> Option<u32>
     }
 }
 
-/// The page of tokens that are a page's.
+/// The page, if it has few enough boxes.
 #[tactic(auto, using(crate::proofs::PageLemmas::too_many, crate::proofs::PageLemmas::is_few))]
-fn page_of(
-    alloc: Global,
+fn with_few_boxes(
     text: &[u8],
     words: &[HtmlWord<'_>],
-    sheet: Place,
+    page: PageText,
 ) -> Result<PageText, PageFault>
-    requires size { length text.now ≤ 1048576 }
     requires utf8 { IsUtf8 text.now }
     requires no_control { position is_control text.now ≡ None }
     requires tokens { AreWordsOf text.now (map shown_word words.now) }
-    requires grammar { judged (length text.now) AtDoctype (map shown_word words.now) ≡ Ok sheet }
+    requires page { IsJudged (length text.now) (map shown_word words.now) (Ok page) }
     ensures ok { IfOk result (λ page. IsRead text.now page) }
     ensures err { IfErr result (λ fault. IsPageFault text.now fault) }
 {
-    let elements = elements_of(alloc, text.len(), words)?;
-    if elements.len() > MOST_ELEMENTS {
+    if page.elements.len() > MOST_ELEMENTS {
         return Err(PageFault::TooMany);
     }
-    Ok(PageText { elements, sheet })
+    Ok(page)
 }
 
 /// The page of a text's tokens.
@@ -103,7 +98,7 @@ fn read_words(alloc: Global, text: &[u8], words: &[HtmlWord<'_>]) -> Result<Page
 {
     let found = judge(alloc, words, text.len() as u32)?;
     match found {
-        Ok(sheet) => page_of(alloc, text, words, sheet),
+        Ok(page) => with_few_boxes(text, words, page),
         Err(at) => Err(PageFault::BadText { at }),
     }
 }
