@@ -1,0 +1,96 @@
+-- What kinds of animations a scene has, and so whether its frames can be painted: the project's own. A set of keyframes is in use
+-- where an animation of a layer has its number.
+use Rattle.std.specs.Prelude.{ℕ, Bool, true, false, not, Option, None, Some, ◌==◌, ◌&&◌, ◌||◌, List, slice_get, nat_lt, IsTrue}
+use Rattle.std.specs.List.{list_any}
+use Rattle.page_model.specs.declared.animation.Anim.{Anim}
+use Rattle.page_model.specs.declared.animation.Count.{Count}
+use Rattle.page_model.specs.declared.animation.Count.TheVariants.{Times, Infinite}
+use Rattle.page_model.specs.declared.colour.Rgb.{Rgb}
+use Rattle.page_model.specs.declared.easing.Easing.{Easing}
+use Rattle.page_model.specs.declared.keyframe.Keyframe.{Keyframe}
+use Rattle.page_model.specs.declared.keyframe.KeyframeSet.{KeyframeSet}
+use Rattle.page_model.specs.declared.property.Prop.TheVariants.{Left, Top, Width, Height}
+use Rattle.page_model.specs.declared.property.Setting.{Setting}
+use Rattle.page_model.specs.declared.property.Value.{Value}
+use Rattle.page_model.specs.declared.property.Value.TheVariants as value
+use Rattle.page_model.specs.declared.scene.Layer.{Layer}
+use Rattle.page_model.specs.declared.scene.Scene.{Scene}
+use Rattle.page_model.specs.Keyframes.{names}
+use Rattle.easing_bounds.specs.Value as easings
+
+-- an optional thing is there and passes a test
+abbrev pub passes : {X : Type 0} → (X → Bool) → Option X → Bool
+passes test None = false
+passes test (Some x) = test x
+
+-- some animation of a layer passes a test
+abbrev pub some_animation : (Anim → Bool) → Scene → Bool
+some_animation test scene = list_any (λ (layer : Layer). list_any test layer.anims) scene.layers
+
+-- the set of an animation passes a test
+abbrev pub set_passes : (KeyframeSet → Bool) → List KeyframeSet → Anim → Bool
+set_passes test sets anim = passes test (slice_get sets anim.set)
+
+-- a layer has an animation
+abbrev pub is_animated : Scene → Bool
+is_animated scene = some_animation (λ (anim : Anim). true) scene
+
+-- a keyframe has a cubic easing of its own
+abbrev pub is_curved : Keyframe → Bool
+is_curved frame = passes easings.is_cubic frame.easing
+
+-- an animation, or a keyframe of its set, has a cubic easing
+abbrev pub runs_curved : List KeyframeSet → Anim → Bool
+runs_curved sets anim =
+    easings.is_cubic anim.easing || set_passes (λ (set : KeyframeSet). list_any is_curved set.frames) sets anim
+
+abbrev pub is_cubic : Scene → Bool
+is_cubic scene = some_animation (runs_curved scene.sets) scene
+
+-- a set names a place or a size
+abbrev pub names_place : KeyframeSet → Bool
+names_place set = names Left set.frames || (names Top set.frames || (names Width set.frames || names Height set.frames))
+
+-- a set in use does
+abbrev pub is_moving : Scene → Bool
+is_moving scene = some_animation (set_passes names_place scene.sets) scene
+
+abbrev pub is_infinite : Count → Bool
+is_infinite (Times thousandths) = false
+is_infinite Infinite = true
+
+-- an animation never comes to its end: it isn't paused, and has infinitely many iterations that take time
+abbrev pub never_ends : Anim → Bool
+never_ends anim = not anim.paused && (is_infinite anim.count && nat_lt 0 anim.duration)
+
+abbrev pub is_endless : Scene → Bool
+is_endless scene = some_animation never_ends scene
+
+-- a colour's channels aren't all equal
+abbrev pub is_tinted : Rgb → Bool
+is_tinted c = not (c.r == c.g && c.g == c.b)
+
+abbrev pub is_tinted_value : Value → Bool
+is_tinted_value (value.Colour c) = is_tinted c
+is_tinted_value (value.Opacity thousandths) = false
+is_tinted_value (value.Shown visible) = false
+is_tinted_value (value.Length hundredths) = false
+
+abbrev pub is_tinted_frame : Keyframe → Bool
+is_tinted_frame frame = list_any (λ (setting : Setting). is_tinted_value setting.value) frame.values
+
+abbrev pub is_tinted_set : KeyframeSet → Bool
+is_tinted_set set = list_any is_tinted_frame set.frames
+
+-- the scene is animated, and a layer or a set in use has such a colour
+abbrev pub is_coloured : Scene → Bool
+is_coloured scene =
+    is_animated scene
+    && (list_any (λ (layer : Layer). passes is_tinted layer.colour) scene.layers || some_animation (set_passes is_tinted_set scene.sets) scene)
+
+-- the frames of a scene can be painted: no easing in use is a curve, and no box moves or grows
+unfoldable pub can_be_painted : Scene → Bool
+can_be_painted scene = not (is_cubic scene) && not (is_moving scene)
+
+abbrev pub CanBePainted : Scene → Type 0
+CanBePainted scene = IsTrue (can_be_painted scene)
