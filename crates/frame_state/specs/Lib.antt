@@ -1,2 +1,4 @@
 pub mod Questions
 pub mod Scenes
+pub mod States
+pub mod Ways

@@ -1,0 +1,6 @@
+mod CourseLemmas
+mod ListLemmas
+mod MixLemmas
+mod PlainLemmas
+mod RoundingLemmas
+mod StateLemmas

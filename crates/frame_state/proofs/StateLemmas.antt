@@ -1,0 +1,209 @@
+-- The state of a layer by the ways of its properties: it is the exact one, the own kind's, and in the ranges of its slots.
+use Rattle.std.proofs.Common.{◌≡◌, ℕ, ◌<◌, ◌-◌, ℤ, pos, negsuc, ◌≤ℤ◌, Bool, true, false, List, [], ◌∷◌, All, Option, Some, None, filter_map, get_or, length, slice_get, if◌then◌else◌, option_map, option_and_then, arith, refl, sym, ap, ◌∙◌, subst, inl, inr}
+use Rattle.std.proofs.lemmas.Int.{ints}
+use Rattle.std.proofs.lemmas.Option.{get_or_from_slice_get, slice_get-get_or}
+use Rattle.page_model.specs.declared.animation.Anim.{Anim}
+use Rattle.page_model.specs.declared.colour.Rgb.{Rgb}
+use Rattle.page_model.specs.declared.easing.Easing.TheVariants.{Linear}
+use Rattle.page_model.specs.declared.property.Prop.{Prop}
+use Rattle.page_model.specs.declared.property.Prop.TheVariants.{Background, Opacity, Visibility, Left, Top, Width, Height}
+use Rattle.page_model.specs.declared.property.Value.{Value}
+use Rattle.page_model.specs.declared.scene.Layer.{Layer}
+use Rattle.page_model.specs.declared.scene.Scene.{Scene}
+use Rattle.page_model.specs.declared.setup.Setup.{Setup}
+use Rattle.page_model.specs.Enclosure.{IsLooseOn, IsLooseStateAt, IsSurelyShownOn, IsSurelyShownWith, Kind, LooseState}
+use Rattle.page_model.specs.Fraction.{zero_of_one}
+use Rattle.page_model.specs.Keyframes.{Interval, last_of}
+use Rattle.page_model.specs.LayerAt.{Course, still, moving, alpha_of, blue_of, course_by, course_of, declared, green_of, interval_at, is_held, length_of, red_of, shown_on, shown_with, state_at, value_on, visible_of}
+use Rattle.page_model.specs.Progress.{above_zero, progress_of}
+use Rattle.page_model.specs.Slot.{Slot, alpha, channel, extent, position, shown_value}
+use Rattle.page_model.specs.ValidScene.{IsValid}
+use Rattle.frame_state.specs.declared.way.Ways.{Ways}
+use Rattle.frame_state.specs.Scenes.{CanBePainted}
+use Rattle.frame_state.specs.States.{IsInSlot, IsInSlots, known, one_value, state_by, sure_of, sure_with}
+use Rattle.frame_state.specs.Ways.{AreWays, IsPlain, Way, chosen, eased_way, shown_by, stays, value_by, way_found, way_in, way_of}
+use Rattle.frame_state.proofs.CourseLemmas.{cases_Option, interval_at-none, interval_at-some}
+use Rattle.frame_state.proofs.PlainLemmas.{All-filter_map, All-slice_get, interval-plain}
+use Rattle.frame_state.proofs.RoundingLemmas.{in_slot, loose-is, shown-is}
+
+-- the way by what was found is that of the course
+chosen-is : (held : Bool) (own : Value) (found : Option Interval)
+    → chosen held own (option_map eased_way found) ≡ way_of (if held then still own else course_by own found)
+chosen-is true own found = refl
+chosen-is false own None = refl
+chosen-is false own (Some interval) = refl
+
+pub way-is : (scene : Scene) (setup : Setup) (frame : ℕ) (layer : Layer) (ways : Ways) → AreWays scene setup frame layer layer.anims ways
+    → (prop : Prop) → way_in layer ways prop ≡ way_of (course_of scene setup frame layer prop)
+way-is scene setup frame layer ways found prop =
+    ap (chosen (is_held layer.important prop) (declared layer prop)) (found prop)
+    ∙ chosen-is (is_held layer.important prop) (declared layer prop)
+    (last_of (filter_map (interval_at scene.sets setup frame prop (declared layer prop)) layer.anims))
+
+-- the ways of a layer's courses
+abbrev pub course_way : Scene → Setup → ℕ → Layer → Prop → Way
+course_way scene setup frame layer prop = way_of (course_of scene setup frame layer prop)
+
+pub state_by-same : (layer : Layer) (f g : Prop → Way) → ((prop : Prop) → f prop ≡ g prop) → state_by layer f ≡ state_by layer g
+state_by-same layer f g same = ap (state_by layer) (λ i prop. same prop i)
+
+-- the exact state
+value-is : (slot : Slot) (part : Value → ℤ) (course : Course) → value_on slot part course ≡ value_by slot part (way_of course)
+value-is slot part (still x) = refl
+value-is slot part (moving interval) = refl
+
+same_visible : (visible : Bool) → visible ≡ shown_value visible visible zero_of_one
+same_visible true = refl
+same_visible false = refl
+
+shown_on-is : (course : Course) → shown_on course ≡ shown_by (way_of course)
+shown_on-is (still x) = same_visible (visible_of x)
+shown_on-is (moving interval) = refl
+
+shown_with-is : (colour : Option Rgb) (course : Course) → sure_of (shown_with colour course) ≡ sure_with colour (way_of course)
+shown_with-is None course = refl
+shown_with-is (Some c) course = ap sure_of (shown_on-is course)
+
+natural : (v : ℤ) → pos 0 ≤ℤ v → pos (above_zero v) ≡ v
+natural (pos n) h = refl
+natural (negsuc n) h = absurd (omega (arith, ints))
+
+natural-is : (slot : Slot) (part : Value → ℤ) (course : Course) → pos 0 ≤ℤ slot.least → slot.least ≤ℤ slot.greatest
+    → pos (above_zero (value_on slot part course)) ≡ value_by slot part (way_of course)
+natural-is slot part course low some =
+    let way : Way = way_of course in
+    let is = value-is slot part course in
+    let inside = in_slot slot (part way.from) (part way.to) way.part some in
+    rw is (natural (value_by slot part way) (above low inside.at_least))
+  where
+    above : {a b : ℤ} → pos 0 ≤ℤ a → a ≤ℤ b → pos 0 ≤ℤ b
+    above h k = omega (arith, ints)
+
+pub known-is : (scene : Scene) (setup : Setup) (frame : ℕ) (layer : Layer)
+    → state_by layer (course_way scene setup frame layer) ≡ known (state_at scene setup frame layer)
+known-is scene setup frame layer =
+    let fill = course_of scene setup frame layer Background in
+    let red = natural-is channel red_of fill (omega (arith, ints)) (omega (arith, ints)) in
+    let green = natural-is channel green_of fill (omega (arith, ints)) (omega (arith, ints)) in
+    let blue = natural-is channel blue_of fill (omega (arith, ints)) (omega (arith, ints)) in
+    let opaque = natural-is alpha alpha_of (course_of scene setup frame layer Opacity) (omega (arith, ints)) (omega (arith, ints)) in
+    let shown = shown_with-is layer.colour (course_of scene setup frame layer Visibility) in
+    let left = value-is position length_of (course_of scene setup frame layer Left) in
+    let top = value-is position length_of (course_of scene setup frame layer Top) in
+    let width = value-is extent length_of (course_of scene setup frame layer Width) in
+    let height = value-is extent length_of (course_of scene setup frame layer Height) in
+    λ i. record {
+      red = one_value (sym red i);
+      green = one_value (sym green i);
+      blue = one_value (sym blue i);
+      alpha = one_value (sym opaque i);
+      shown = sym shown i;
+      left = one_value (sym left i);
+      top = one_value (sym top i);
+      width = one_value (sym width i);
+      height = one_value (sym height i);
+    }
+
+-- the ranges
+pub state_by-in_slots : (layer : Layer) (way : Prop → Way) → IsInSlots (state_by layer way)
+state_by-in_slots layer way = record {
+  red = in_slot channel (red_of (way Background).from) (red_of (way Background).to) (way Background).part (omega (arith, ints));
+  green = in_slot channel (green_of (way Background).from) (green_of (way Background).to) (way Background).part (omega (arith, ints));
+  blue = in_slot channel (blue_of (way Background).from) (blue_of (way Background).to) (way Background).part (omega (arith, ints));
+  alpha = in_slot alpha (alpha_of (way Opacity).from) (alpha_of (way Opacity).to) (way Opacity).part (omega (arith, ints));
+  left = in_slot position (length_of (way Left).from) (length_of (way Left).to) (way Left).part (omega (arith, ints));
+  top = in_slot position (length_of (way Top).from) (length_of (way Top).to) (way Top).part (omega (arith, ints));
+  width = in_slot extent (length_of (way Width).from) (length_of (way Width).to) (way Width).part (omega (arith, ints));
+  height = in_slot extent (length_of (way Height).from) (length_of (way Height).to) (way Height).part (omega (arith, ints));
+}
+
+-- a course whose easing is no curve
+abbrev IsPlainCourse : Course → Type 0
+IsPlainCourse (still x) = Unit {0}
+IsPlainCourse (moving interval) = IsPlain interval.easing
+
+plain-by : (held : Bool) (own : Value) (found : Option Interval) → ((interval : Interval) → found ≡ Some interval → IsPlain interval.easing)
+    → IsPlainCourse (if held then still own else course_by own found)
+plain-by true own found each = tt
+plain-by false own None each = tt
+plain-by false own (Some interval) each = each interval refl
+
+plain-at : (scene : Scene) (setup : Setup) (frame number place : ℕ) (layer : Layer) (anim : Anim) (prop : Prop) (interval : Interval)
+    → IsValid scene → CanBePainted scene → slice_get scene.layers number ≡ Some layer → slice_get layer.anims place ≡ Some anim
+    → interval_at scene.sets setup frame prop (declared layer prop) anim ≡ Some interval → IsPlain interval.easing
+plain-at scene setup frame number place layer anim prop interval valid painted layer_is anim_is e =
+    elim (cases_Option (progress_of setup anim frame)) [
+      | inl none ↦ absurd (cc (interval_at-none scene.sets setup frame prop (declared layer prop) anim none))
+      | inr some ↦
+          interval-plain scene number place prop some.0 interval valid painted
+          (sym (interval_at-some scene setup frame number place layer anim prop some.0 layer_is anim_is some.1) ∙ e)
+    ]
+
+course-plain : (scene : Scene) (setup : Setup) (frame number : ℕ) (layer : Layer) (prop : Prop) → IsValid scene → CanBePainted scene
+    → slice_get scene.layers number ≡ Some layer → IsPlainCourse (course_of scene setup frame layer prop)
+course-plain scene setup frame number layer prop valid painted layer_is =
+    let own : Value = declared layer prop in
+    let found : List Interval = filter_map (interval_at scene.sets setup frame prop own) layer.anims in
+    let all = All-filter_map (interval_at scene.sets setup frame prop own) (λ (interval : Interval). IsPlain interval.easing) layer.anims
+    (λ place d within interval e.
+    plain-at scene setup frame number place layer (get_or layer.anims place d) prop interval valid painted layer_is (slice_get-get_or layer.anims place d within) e) in
+    plain-by (is_held layer.important prop) own (last_of found)
+    (λ interval e. All-slice_get (λ (i : Interval). IsPlain i.easing) found (length found - 1) interval all e)
+
+-- the own kind, and any other
+loose_on-is : (kind : Kind) (slot : Slot) (part : Value → ℤ) (course : Course) → 0 < slot.unit → slot.least ≤ℤ slot.greatest → IsPlainCourse course
+    → 0 < (way_of course).part.den → IsLooseOn kind slot part course (one_value (value_by slot part (way_of course)))
+loose_on-is kind slot part (still x) unit some plain den = loose-is kind slot Linear zero_of_one (part x) (part x) refl unit some (omega arith)
+loose_on-is kind slot part (moving i) unit some plain den = loose-is kind slot i.easing i.distance (part i.from) (part i.to) plain.straight unit some den
+
+surely_on-is : (kind : Kind) (course : Course) → IsPlainCourse course → IsSurelyShownOn kind course (sure_of (shown_by (way_of course)))
+surely_on-is kind (still x) plain = shown-is kind Linear zero_of_one (visible_of x) (visible_of x) refl
+surely_on-is kind (moving i) plain = shown-is kind i.easing i.distance (visible_of i.from) (visible_of i.to) plain.straight
+
+surely_with-is : (kind : Kind) (colour : Option Rgb) (course : Course) → IsPlainCourse course → IsSurelyShownWith kind colour course (sure_with colour (way_of course))
+surely_with-is kind None course plain = refl
+surely_with-is kind (Some c) course plain = surely_on-is kind course plain
+
+pub state_by-loose : (kind : Kind) (scene : Scene) (setup : Setup) (frame number : ℕ) (layer : Layer) → IsValid scene → CanBePainted scene
+    → slice_get scene.layers number ≡ Some layer → ((prop : Prop) → 0 < (course_way scene setup frame layer prop).part.den)
+    → IsLooseStateAt kind scene setup frame layer (state_by layer (course_way scene setup frame layer))
+state_by-loose kind scene setup frame number layer valid painted layer_is den =
+    let plain : (prop : Prop) → IsPlainCourse (course_of scene setup frame layer prop) =
+    λ prop. course-plain scene setup frame number layer prop valid painted layer_is in
+    let fill : Course = course_of scene setup frame layer Background in record {
+      is_red = loose_on-is kind channel red_of fill (omega arith) (omega (arith, ints)) (plain Background) (den Background);
+      is_green = loose_on-is kind channel green_of fill (omega arith) (omega (arith, ints)) (plain Background) (den Background);
+      is_blue = loose_on-is kind channel blue_of fill (omega arith) (omega (arith, ints)) (plain Background) (den Background);
+      is_alpha = loose_on-is kind alpha alpha_of (course_of scene setup frame layer Opacity) (omega arith) (omega (arith, ints)) (plain Opacity) (den Opacity);
+      is_shown = surely_with-is kind layer.colour (course_of scene setup frame layer Visibility) (plain Visibility);
+      is_left = loose_on-is kind position length_of (course_of scene setup frame layer Left) (omega arith) (omega (arith, ints)) (plain Left) (den Left);
+      is_top = loose_on-is kind position length_of (course_of scene setup frame layer Top) (omega arith) (omega (arith, ints)) (plain Top) (den Top);
+      is_width = loose_on-is kind extent length_of (course_of scene setup frame layer Width) (omega arith) (omega (arith, ints)) (plain Width) (den Width);
+      is_height = loose_on-is kind extent length_of (course_of scene setup frame layer Height) (omega arith) (omega (arith, ints)) (plain Height) (den Height);
+    }
+
+-- a layer's state, by the ways of the animations of the layer that was read
+pub layer-is : (scene : Scene) (setup : Setup) (frame : ℕ) (layer element : Layer) (anims : List Anim) (ways : Ways) (state : LooseState)
+    → element ≡ layer → anims ≡ element.anims → AreWays scene setup frame layer anims ways → state ≡ state_by element (way_in element ways)
+    → state ≡ state_by layer (course_way scene setup frame layer)
+layer-is scene setup frame layer element anims ways state same own found is =
+    let own' : anims ≡ layer.anims = own ∙ ap (λ (l : Layer). l.anims) same in
+    is ∙ ap (λ (l : Layer). state_by l (way_in l ways)) same
+    ∙ state_by-same layer (way_in layer ways) (course_way scene setup frame layer)
+    (way-is scene setup frame layer ways (subst (λ (xs : List Anim). AreWays scene setup frame layer xs ways) own' found))
+
+pub way-positive : (scene : Scene) (setup : Setup) (frame : ℕ) (layer element : Layer) (anims : List Anim) (ways : Ways)
+    → element ≡ layer → anims ≡ element.anims → AreWays scene setup frame layer anims ways
+    → ((prop : Prop) → 0 < (way_in element ways prop).part.den) → (prop : Prop) → 0 < (course_way scene setup frame layer prop).part.den
+way-positive scene setup frame layer element anims ways same own found positive prop =
+    let own' : anims ≡ layer.anims = own ∙ ap (λ (l : Layer). l.anims) same in
+    subst (λ (w : Way). 0 < w.part.den)
+    (ap (λ (l : Layer). way_in l ways prop) same
+    ∙ way-is scene setup frame layer ways (subst (λ (xs : List Anim). AreWays scene setup frame layer xs ways) own' found) prop)
+    (positive prop)
+
+-- the layer that is read at a place
+pub read-is : (layers xs : List Layer) (number : ℕ) (layer element : Layer) → element ≡ get_or xs number element → xs ≡ layers
+    → slice_get layers number ≡ Some layer → element ≡ layer
+read-is layers xs number layer element read same is =
+    read ∙ ap (λ (ys : List Layer). get_or ys number element) same ∙ get_or_from_slice_get layers number layer element is

@@ -1,0 +1,16 @@
+-- The interval has a plain easing.
+use Rattle.std.proofs.Common.{◌≡◌, Some, option_map, sym, subst, arith}
+use Rattle.fix_span.specs.Frac.{fraction_of}
+use Rattle.keyframe_sets.specs.declared.types.Interval.{Interval}
+use Rattle.keyframe_sets.specs.Here.{interval_here}
+use Rattle.keyframe_sets.specs.Views.{with_frac}
+use Rattle.frame_state.specs.Ways.{IsPlain}
+use Rattle.frame_state.proofs.PlainLemmas.{interval-plain, mapped_some}
+use Rattle.frame_state.proofs.ways.way_at.Goals as goal
+
+pub eased_way-requires-clause-plain : goal.eased_way-requires-clause-plain
+eased_way-requires-clause-plain c =
+    let found = mapped_some with_frac (interval_here c.args.scene.now c.args.layer c.args.anim c.args.prop (fraction_of c.args.at)) c.in-Some.interval
+    (sym c.in-Some.ensures.value) in
+    subst (λ (i : Interval). IsPlain i.easing) found.2
+    (interval-plain c.args.scene.now c.args.layer c.args.anim c.args.prop (fraction_of c.args.at) found.0 c.requires.valid c.requires.painted found.1)

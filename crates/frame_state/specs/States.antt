@@ -1,0 +1,127 @@
+-- The state of a layer as the code has it, seen as the definitions have it.
+use Rattle.std.specs.Prelude.{ℕ, ℤ, pos, Bool, true, false, Option, None, Some, ◌≡◌, ◌<◌, ◌≤ℤ◌, List, length, slice_get, option_map, unwrap_or}
+use Rattle.page_model.specs.declared.colour.Rgb.{Rgb}
+use Rattle.page_model.specs.declared.property.Prop.{Prop}
+use Rattle.page_model.specs.declared.property.Prop.TheVariants.{Background, Opacity, Visibility, Left, Top, Width, Height}
+use Rattle.page_model.specs.declared.scene.Layer.{Layer}
+use Rattle.page_model.specs.declared.scene.Scene.{Scene}
+use Rattle.page_model.specs.declared.setup.Setup.{Setup}
+use Rattle.page_model.specs.Enclosure.{Loose, LooseState, Sureness, surely, surely_not, maybe, own, IsLooseStateAt}
+use Rattle.page_model.specs.LayerAt.{State, state_at, red_of, green_of, blue_of, alpha_of, length_of}
+use Rattle.page_model.specs.Slot.{Slot, channel, alpha, position, extent}
+use Rattle.fix_span.specs.declared.loose.Loose.{Loose as Ends}
+use Rattle.frame_state.specs.declared.slots.Slot.{Slot as Held}
+use Rattle.frame_state.specs.declared.types.LayerState.{LayerState}
+use Rattle.frame_state.specs.declared.types.Shown.{Shown}
+use Rattle.frame_state.specs.declared.types.Shown.TheVariants.{Yes, No, Maybe}
+use Rattle.frame_state.specs.Ways.{Way, value_by, shown_by}
+
+abbrev pub slot_as : Held → Slot
+slot_as slot = record { unit = slot.unit; least = slot.least; greatest = slot.greatest }
+
+abbrev pub loose_as : Ends → Loose
+loose_as ends = record { lo = ends.lo; hi = ends.hi }
+
+abbrev pub sureness_of : Shown → Sureness
+sureness_of Yes = surely
+sureness_of No = surely_not
+sureness_of Maybe = maybe
+
+abbrev pub state_as : LayerState → LooseState
+state_as state = record {
+  red = loose_as state.r;
+  green = loose_as state.g;
+  blue = loose_as state.b;
+  alpha = loose_as state.alpha;
+  shown = sureness_of state.shown;
+  left = loose_as state.left;
+  top = loose_as state.top;
+  width = loose_as state.width;
+  height = loose_as state.height;
+}
+
+-- one value, and one truth, as a loose one
+abbrev pub one_value : ℤ → Loose
+one_value v = record { lo = v; hi = v }
+
+abbrev pub sure_of : Bool → Sureness
+sure_of true = surely
+sure_of false = surely_not
+
+-- a state that is known: both ends are the value
+abbrev pub known : State → LooseState
+known state = record {
+  red = one_value (pos state.red);
+  green = one_value (pos state.green);
+  blue = one_value (pos state.blue);
+  alpha = one_value (pos state.alpha);
+  shown = sure_of state.shown;
+  left = one_value state.left;
+  top = one_value state.top;
+  width = one_value state.width;
+  height = one_value state.height;
+}
+
+-- a loose value has its ends in order and in the range of its slot
+pub record IsInSlot (slot : Slot) (loose : Loose) : Type 0 where
+  pub at_least : slot.least ≤ℤ loose.lo
+  pub in_order : loose.lo ≤ℤ loose.hi
+  pub at_most : loose.hi ≤ℤ slot.greatest
+
+-- so has each of a state
+pub record IsInSlots (state : LooseState) : Type 0 where
+  pub red : IsInSlot channel state.red
+  pub green : IsInSlot channel state.green
+  pub blue : IsInSlot channel state.blue
+  pub alpha : IsInSlot alpha state.alpha
+  pub left : IsInSlot position state.left
+  pub top : IsInSlot position state.top
+  pub width : IsInSlot extent state.width
+  pub height : IsInSlot extent state.height
+
+-- the states of layers by number; of a layer that isn't there nothing is shown
+abbrev pub nothing : LooseState
+nothing = record {
+  red = one_value (pos 0);
+  green = one_value (pos 0);
+  blue = one_value (pos 0);
+  alpha = one_value (pos 0);
+  shown = surely_not;
+  left = one_value (pos 0);
+  top = one_value (pos 0);
+  width = one_value (pos 0);
+  height = one_value (pos 0);
+}
+
+abbrev pub states_as : List LayerState → ℕ → LooseState
+states_as states number = unwrap_or (option_map state_as (slice_get states number)) nothing
+
+-- the states of all layers are those of the own kind, and they are the exact ones
+abbrev pub AreOwn : Scene → Setup → ℕ → (ℕ → LooseState) → Type 0
+AreOwn scene setup frame states =
+    (number : ℕ) (layer : Layer) → slice_get scene.layers number ≡ Some layer → IsLooseStateAt own scene setup frame layer (states number)
+
+abbrev pub AreExact : Scene → Setup → ℕ → (ℕ → LooseState) → Type 0
+AreExact scene setup frame states =
+    (number : ℕ) (layer : Layer) → slice_get scene.layers number ≡ Some layer → states number ≡ known (state_at scene setup frame layer)
+
+abbrev pub AreInSlots : Scene → (ℕ → LooseState) → Type 0
+AreInSlots scene states = (number : ℕ) → number < length scene.layers → IsInSlots (states number)
+
+-- a state by the ways of its properties
+abbrev pub sure_with : Option Rgb → Way → Sureness
+sure_with None way = surely_not
+sure_with (Some colour) way = sure_of (shown_by way)
+
+abbrev pub state_by : Layer → (Prop → Way) → LooseState
+state_by layer way = record {
+  red = one_value (value_by channel red_of (way Background));
+  green = one_value (value_by channel green_of (way Background));
+  blue = one_value (value_by channel blue_of (way Background));
+  alpha = one_value (value_by alpha alpha_of (way Opacity));
+  shown = sure_with layer.colour (way Visibility);
+  left = one_value (value_by position length_of (way Left));
+  top = one_value (value_by position length_of (way Top));
+  width = one_value (value_by extent length_of (way Width));
+  height = one_value (value_by extent length_of (way Height));
+}

@@ -1,0 +1,136 @@
+// The state of a layer in a frame.
+ghost use Rattle.std.specs.Prelude.{Some, ℕ, ◌≡◌, ◌^◌, ◌<◌, length, slice_get};
+ghost use Rattle.page_model.specs.declared.property.Prop.{Prop as Property};
+ghost use Rattle.page_model.specs.declared.scene.Layer.{Layer as Element};
+ghost use Rattle.page_model.specs.Enclosure.{own, IsLooseStateAt};
+ghost use Rattle.page_model.specs.LayerAt as definition;
+ghost use Rattle.page_model.specs.Slot as slots;
+ghost use Rattle.page_model.specs.ValidScene.{IsValid};
+ghost use Rattle.frame_state.specs.Scenes.{CanBePainted};
+ghost use Rattle.frame_state.specs.States.{slot_as, loose_as, sureness_of, state_as, states_as, one_value, sure_with, state_by, known, IsInSlots, AreOwn, AreExact, AreInSlots};
+ghost use Rattle.frame_state.specs.Ways.{way_as, way_in, shown_by as is_shown_by, value_by};
+
+use crate::parts::{alpha_of, blue_of, green_of, length_of, red_of, visible_of};
+use crate::slots::{ALPHA, CHANNEL, EXTENT, POSITION, Slot, slot_value};
+use crate::types::{LayerState, Shown};
+use crate::way::{Way, Ways};
+use crate::ways::{way_of, ways_at};
+use fix_span::Loose;
+use page_model::{Layer, Prop, Rgb, Scene, Setup};
+
+// Whether a box is shown on a way.
+fn shown_by(way: Way) -> bool
+    ensures { result ≡ is_shown_by (way_as way) }
+{
+    match (visible_of(way.from), visible_of(way.to)) {
+        (true, true) => true,
+        (true, false) => way.part.num < way.part.den,
+        (false, true) => 0 < way.part.num,
+        (false, false) => false,
+    }
+}
+
+fn shown_with(colour: Option<Rgb>, way: Way) -> Shown
+    ensures { sureness_of result ≡ sure_with colour (way_as way) }
+{
+    match colour {
+        Some(_) => { if shown_by(way) { Shown::Yes } else { Shown::No } }
+        None => Shown::No,
+    }
+}
+
+// The channels and the alpha on a way.
+
+fn red_on(way: Way) -> Loose
+    ensures { loose_as result ≡ one_value (value_by slots.channel definition.red_of (way_as way)) }
+{
+    slot_value(CHANNEL, red_of(way.from), red_of(way.to), way.part)
+}
+
+fn green_on(way: Way) -> Loose
+    ensures { loose_as result ≡ one_value (value_by slots.channel definition.green_of (way_as way)) }
+{
+    slot_value(CHANNEL, green_of(way.from), green_of(way.to), way.part)
+}
+
+fn blue_on(way: Way) -> Loose
+    ensures { loose_as result ≡ one_value (value_by slots.channel definition.blue_of (way_as way)) }
+{
+    slot_value(CHANNEL, blue_of(way.from), blue_of(way.to), way.part)
+}
+
+fn alpha_on(way: Way) -> Loose
+    ensures { loose_as result ≡ one_value (value_by slots.alpha definition.alpha_of (way_as way)) }
+{
+    slot_value(ALPHA, alpha_of(way.from), alpha_of(way.to), way.part)
+}
+
+// A length on a way, in whole pixels.
+fn pixels(slot: Slot, way: Way) -> Loose
+    requires { 0 < slot.unit }
+    ensures { loose_as result ≡ one_value (value_by (slot_as slot) definition.length_of (way_as way)) }
+{
+    slot_value(slot, length_of(way.from), length_of(way.to), way.part)
+}
+
+// The state of a layer, by what animations make of its properties.
+fn state_of(layer: &Layer, ways: Ways) -> LayerState
+    ensures value { state_as result ≡ state_by layer.now (way_in layer.now ways) }
+    ensures positive { (prop : Property) → 0 < (way_in layer.now ways prop).part.den }
+{
+    let fill = way_of(layer, Prop::Background, ways.background);
+    let opacity = way_of(layer, Prop::Opacity, ways.opacity);
+    let visibility = way_of(layer, Prop::Visibility, ways.visibility);
+    let left = way_of(layer, Prop::Left, ways.left);
+    let top = way_of(layer, Prop::Top, ways.top);
+    let width = way_of(layer, Prop::Width, ways.width);
+    let height = way_of(layer, Prop::Height, ways.height);
+    LayerState {
+        shown: shown_with(layer.colour, visibility),
+        r: red_on(fill),
+        g: green_on(fill),
+        b: blue_on(fill),
+        alpha: alpha_on(opacity),
+        left: pixels(POSITION, left),
+        top: pixels(POSITION, top),
+        width: pixels(EXTENT, width),
+        height: pixels(EXTENT, height),
+    }
+}
+
+/// The state of a layer in frame `k`: for each property the value of the last animation in the layer's list that has an
+/// effect and names it, unless the winning declaration is important, and else the declared value; rounded half up and
+/// held in its range. A body without colour is not shown. For a scene that can be painted every value is exact, so
+/// both ends are the same, and nothing is shown `Maybe`.
+///
+/// CSS Animations Level 1, "Keyframes", and CSS Cascading and Inheritance Level 4, "Cascading Origins".
+pub fn layer_at(scene: &Scene, setup: &Setup, k: u64, layer: u16) -> LayerState
+    requires valid { IsValid scene.now }
+    requires painted { CanBePainted scene.now }
+    requires there { layer < length scene.now.layers }
+    requires frame { k < 2 ^ 32 }
+    ensures exact { (l : Element) → slice_get scene.now.layers layer ≡ Some l
+        → state_as result ≡ known (definition.state_at scene.now setup.now k l) }
+    ensures own { (l : Element) → slice_get scene.now.layers layer ≡ Some l
+        → IsLooseStateAt own scene.now setup.now k l (state_as result) }
+    ensures ranges { IsInSlots (state_as result) }
+{
+    let element = &scene.layers.as_slice()[layer as usize];
+    let ways = ways_at(scene, setup, k, layer, element.anims.as_slice());
+    state_of(element, ways)
+}
+
+/// The states of all layers in frame `k`, by number.
+pub fn states_at(scene: &Scene, setup: &Setup, k: u64, out: &mut [LayerState])
+    requires valid { IsValid scene.now }
+    requires painted { CanBePainted scene.now }
+    requires frame { k < 2 ^ 32 }
+    requires room { length out.old ≡ length scene.now.layers }
+    ensures exact { AreExact scene.now setup.now k (states_as out.new) }
+    ensures own { AreOwn scene.now setup.now k (states_as out.new) }
+    ensures ranges { AreInSlots scene.now (states_as out.new) }
+{
+    for i in 0..out.len() {
+        out[i] = layer_at(scene, setup, k, i as u16);
+    }
+}
