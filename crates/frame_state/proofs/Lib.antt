@@ -1,5 +1,5 @@
 mod CourseLemmas
-mod ListLemmas
+pub mod ListLemmas
 mod MixLemmas
 mod PlainLemmas
 mod RoundingLemmas

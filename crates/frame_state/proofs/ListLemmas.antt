@@ -7,7 +7,7 @@ use Rattle.page_model.specs.Enclosure.{LooseState}
 use Rattle.frame_state.specs.declared.types.LayerState.{LayerState}
 use Rattle.frame_state.specs.States.{nothing, state_as, states_as}
 
-states_as-there : (xs : List LayerState) (i : ℕ) (d : LayerState) → i < length xs → states_as xs i ≡ state_as (get_or xs i d)
+pub states_as-there : (xs : List LayerState) (i : ℕ) (d : LayerState) → i < length xs → states_as xs i ≡ state_as (get_or xs i d)
 states_as-there xs i d inside = ap (λ o. unwrap_or (option_map state_as o) nothing) (slice_get-get_or xs i d inside)
 
 states_as-set_same : (xs : List LayerState) (i : ℕ) (state : LayerState) → i < length xs → states_as (set xs i state) i ≡ state_as state

@@ -1,0 +1,77 @@
+-- The states that are read are those of layers with a colour.
+use Rattle.std.proofs.Common.{◌≡◌, ℕ, ◌<◌, ◌≤◌, Bool, true, false, List, Option, Some, None, get_or, length, slice_get, take, ◌+◌, option_map, unwrap_or, is_some, IsSome, option_and_then, arith, refl, sym, ap, ◌∙◌, subst, inl, inr}
+use Rattle.std.specs.Prelude.{fold}
+use Rattle.std.proofs.lemmas.List.Sums.{fold_more}
+use Rattle.std.proofs.lemmas.List.Elements.{All-contains_itself}
+use Rattle.std.proofs.lemmas.Option.{option_and_then_some, slice_get_cases}
+use Rattle.page_model.specs.declared.colour.Rgb.{Rgb}
+use Rattle.page_model.specs.declared.colour.Tint.{Tint}
+use Rattle.page_model.specs.declared.scene.Layer.{Layer}
+use Rattle.page_model.specs.declared.scene.Scene.{Scene}
+use Rattle.page_model.specs.declared.setup.Setup.{Setup}
+use Rattle.page_model.specs.Colour.{body_colour}
+use Rattle.page_model.specs.Enclosure.{LooseState}
+use Rattle.page_model.specs.LayerAt.{state_at}
+use Rattle.page_model.specs.TintOf.{tint_box, tint_ground}
+use Rattle.page_model.specs.ValidScene.{IsValid}
+use Rattle.frame_state.specs.declared.types.LayerState.{LayerState}
+use Rattle.frame_state.specs.States.{AreExact, IsInSlots, known, state_as, states_as}
+use Rattle.frame_state.proofs.ListLemmas.{states_as-there}
+use Rattle.paint_blend.specs.Paint.{AreKnown, AreReady, box_over, exact_states, no_state}
+
+some_there : {X : Type 0} (o : Option X) → is_some o ≡ true → (x : X) × (o ≡ Some x)
+some_there None e = absurd (cc)
+some_there (Some x) e = (x, refl)
+
+is_some-there : {X : Type 0} (o : Option X) (x : X) → o ≡ Some x → IsSome o
+is_some-there o x e = rw e refl
+
+-- the body's, where it has a colour
+pub ground-ready : (scene : Scene) (states : List LayerState) (d : LayerState) → length states ≡ length scene.layers → 1 ≤ length scene.layers
+    → AreReady scene (states_as states) → is_some (body_colour scene) ≡ true → IsInSlots (state_as (get_or states 0 d))
+ground-ready scene states d same some ready coloured =
+    let colour = some_there (body_colour scene) coloured in
+    option_and_then_some (λ (body : Layer). body.colour) (slice_get scene.layers 0) colour.0 colour.1
+    (λ body body_is colour_is.
+    subst IsInSlots (states_as-there states 0 d (omega arith)) (ready 0 body body_is (is_some-there body.colour colour.0 colour_is)))
+
+-- and those of the boxes
+pub box-inside : (scene : Scene) (i : ℕ) → IsValid scene → i < length scene.order → get_or scene.order i 0 < length scene.layers
+box-inside scene i valid within =
+    ((valid.order.boxes (get_or scene.order i 0)).0 (All-contains_itself scene.order i 0 within)).1
+
+pub box-ready : (scene : Scene) (states : List LayerState) (i : ℕ) (d : LayerState) → IsValid scene → length states ≡ length scene.layers
+    → AreReady scene (states_as states) → i < length scene.order → IsInSlots (state_as (get_or states (get_or scene.order i 0) d))
+box-ready scene states i d valid same ready within =
+    let number : ℕ = get_or scene.order i 0 in
+    let there = (valid.order.boxes number).0 (All-contains_itself scene.order i 0 within) in
+    let inside : number < length scene.layers = there.1 in
+    elim (slice_get_cases scene.layers number).1 [
+      | inl found ↦
+          subst IsInSlots (states_as-there states number d (omega arith))
+          (ready number found.0 found.2 (valid.boxes number found.0 there.0 found.2))
+      | inr past ↦ absurd (let far = past.0 in omega arith)
+    ]
+
+-- the tint after one more box
+pub box-more : (scene : Scene) (states : List LayerState) (x y i : ℕ) (d : LayerState) (before next : Tint) → IsValid scene
+    → length states ≡ length scene.layers → i < length scene.order
+    → before ≡ fold (tint_box (states_as states) x y) (tint_ground scene (states_as states)) (take i scene.order)
+    → next ≡ box_over (state_as (get_or states (get_or scene.order i 0) d)) x y before
+    → next ≡ fold (tint_box (states_as states) x y) (tint_ground scene (states_as states)) (take (i + 1) scene.order)
+box-more scene states x y i d before next valid same within is painted =
+    let number : ℕ = get_or scene.order i 0 in
+    let inside = box-inside scene i valid within in
+    painted
+    ∙ ap (λ (state : LooseState). box_over state x y before) (sym (states_as-there states number d (omega arith)))
+    ∙ ap (λ (tint : Tint). tint_box (states_as states) x y tint number) is
+    ∙ sym (fold_more (tint_box (states_as states) x y) (tint_ground scene (states_as states)) scene.order i 0 within)
+
+-- the exact states of all layers are known ones
+pub exact-known : (scene : Scene) (setup : Setup) (frame : ℕ) (loose : ℕ → LooseState) → AreExact scene setup frame loose
+    → AreKnown scene loose (exact_states scene setup frame)
+exact-known scene setup frame loose exact number within =
+    elim (slice_get_cases scene.layers number).1 [
+      | inl found ↦ exact number found.0 found.2 ∙ sym (ap (λ o. known (unwrap_or (option_map (state_at scene setup frame) o) no_state)) found.2)
+      | inr past ↦ absurd (let far = past.0 in omega arith)
+    ]

@@ -1,0 +1,47 @@
+-- The code's own types as the definitions have them, and which states can be painted.
+use Rattle.std.specs.Prelude.{ℕ, ℤ, pos, false, Option, Some, None, ◌≡◌, ◌<◌, ◌≤◌, List, length, slice_get, IsSome, option_map, unwrap_or}
+use Rattle.page_model.specs.declared.colour.Tint.{Tint}
+use Rattle.page_model.specs.declared.scene.Layer.{Layer}
+use Rattle.page_model.specs.declared.scene.Scene.{Scene}
+use Rattle.page_model.specs.declared.setup.Setup.{Setup}
+use Rattle.page_model.specs.Enclosure.{LooseState}
+use Rattle.page_model.specs.LayerAt.{State, state_at}
+use Rattle.page_model.specs.TintOf as definition
+use Rattle.page_model.specs.TintOf.{both, covers_surely, painted_where, tint_over}
+use Rattle.frame_state.specs.declared.types.LayerState.{LayerState}
+use Rattle.frame_state.specs.States.{IsInSlots, known, states_as}
+use Rattle.paint_blend.specs.declared.span.Span.{Span}
+
+abbrev pub span_as : Span → definition.Span
+span_as span = record { lo = span.lo; hi = span.hi }
+
+-- a state painted where it is shown and covers the pixel
+abbrev pub box_over : LooseState → ℕ → ℕ → Tint → Tint
+box_over state column row backdrop =
+    painted_where (both state.shown (covers_surely state column row)) (tint_over state backdrop) backdrop
+
+-- the states of the layers with a colour are in their slots
+abbrev pub AreReady : Scene → (ℕ → LooseState) → Type 0
+AreReady scene states =
+    (number : ℕ) (layer : Layer) → slice_get scene.layers number ≡ Some layer → IsSome layer.colour → IsInSlots (states number)
+
+-- loose states are known ones: each has the exact state's values at both ends
+abbrev pub AreKnown : Scene → (ℕ → LooseState) → (ℕ → State) → Type 0
+AreKnown scene loose states = (number : ℕ) → number < length scene.layers → loose number ≡ known (states number)
+
+-- the exact states of all layers in a frame, by number; of a layer that isn't there nothing is shown
+abbrev pub no_state : State
+no_state = record {
+  red = 0;
+  green = 0;
+  blue = 0;
+  alpha = 0;
+  shown = false;
+  left = pos 0;
+  top = pos 0;
+  width = pos 0;
+  height = pos 0;
+}
+
+abbrev pub exact_states : Scene → Setup → ℕ → ℕ → State
+exact_states scene setup frame number = unwrap_or (option_map (state_at scene setup frame) (slice_get scene.layers number)) no_state

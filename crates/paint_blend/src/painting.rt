@@ -1,0 +1,189 @@
+// The tint of a pixel.
+ghost use Rattle.std.specs.Prelude.{ℕ, ◌≡◌, ◌^◌, ◌<◌, length, is_some};
+ghost use Rattle.page_model.specs.Colour as colours;
+ghost use Rattle.page_model.specs.Enclosure.{LooseState};
+ghost use Rattle.page_model.specs.LayerAt.{State};
+ghost use Rattle.page_model.specs.TintOf as definition;
+ghost use Rattle.page_model.specs.ValidScene.{IsValid};
+ghost use Rattle.frame_state.specs.Scenes.{CanBePainted};
+ghost use Rattle.frame_state.specs.States.{AreOwn, IsInSlots, state_as, states_as};
+ghost use Rattle.paint_blend.specs.Paint.{AreKnown, AreReady, box_over, exact_states, span_as};
+
+use crate::blending::{blended_span, hull, span_of};
+use crate::covering::{both, covers};
+use crate::span::Span;
+use fix_span::Loose;
+use frame_state::{LayerState, Shown, states_at};
+use page_model::{Rgb, Scene, Setup, Tint};
+
+const WHITE: Rgb = Rgb {
+    r: 255,
+    g: 255,
+    b: 255,
+};
+
+// The most layers that a valid scene has.
+const MOST_LAYERS: usize = 65;
+
+const ZERO: Loose = Loose { lo: 0, hi: 0 };
+
+const NOTHING: LayerState = LayerState {
+    shown: Shown::No,
+    r: ZERO,
+    g: ZERO,
+    b: ZERO,
+    alpha: ZERO,
+    left: ZERO,
+    top: ZERO,
+    width: ZERO,
+    height: ZERO,
+};
+
+fn tint_by(red: Span, green: Span, blue: Span) -> Tint
+    ensures { result ≡ definition.tint_by (span_as red) (span_as green) (span_as blue) }
+{
+    Tint {
+        lo: Rgb {
+            r: red.lo,
+            g: green.lo,
+            b: blue.lo,
+        },
+        hi: Rgb {
+            r: red.hi,
+            g: green.hi,
+            b: blue.hi,
+        },
+    }
+}
+
+fn red_span(tint: Tint) -> Span
+    ensures { span_as result ≡ definition.red_span tint }
+{
+    Span {
+        lo: tint.lo.r,
+        hi: tint.hi.r,
+    }
+}
+
+fn green_span(tint: Tint) -> Span
+    ensures { span_as result ≡ definition.green_span tint }
+{
+    Span {
+        lo: tint.lo.g,
+        hi: tint.hi.g,
+    }
+}
+
+fn blue_span(tint: Tint) -> Span
+    ensures { span_as result ≡ definition.blue_span tint }
+{
+    Span {
+        lo: tint.lo.b,
+        hi: tint.hi.b,
+    }
+}
+
+// A layer painted over a tint.
+fn tint_over(state: &LayerState, backdrop: Tint) -> Tint
+    requires { IsInSlots (state_as state.now) }
+    ensures { result ≡ definition.tint_over (state_as state.now) backdrop }
+{
+    let alpha = span_of(state.alpha);
+    tint_by(
+        blended_span(span_of(state.r), alpha, red_span(backdrop)),
+        blended_span(span_of(state.g), alpha, green_span(backdrop)),
+        blended_span(span_of(state.b), alpha, blue_span(backdrop)),
+    )
+}
+
+fn tint_hull(a: Tint, b: Tint) -> Tint
+    ensures { result ≡ definition.tint_hull a b }
+{
+    tint_by(
+        hull(red_span(a), red_span(b)),
+        hull(green_span(a), green_span(b)),
+        hull(blue_span(a), blue_span(b)),
+    )
+}
+
+// The tint after a box is painted, where it is shown and covers the pixel.
+fn with_box(state: &LayerState, x: u16, y: u16, backdrop: Tint) -> Tint
+    requires { IsInSlots (state_as state.now) }
+    ensures { result ≡ box_over (state_as state.now) x y backdrop }
+{
+    match both(state.shown, covers(state, x, y)) {
+        Shown::Yes => tint_over(state, backdrop),
+        Shown::No => backdrop,
+        Shown::Maybe => tint_hull(tint_over(state, backdrop), backdrop),
+    }
+}
+
+// Whether the body has a colour.
+fn has_ground(scene: &Scene) -> bool
+    ensures { result ≡ is_some (colours.body_colour scene.now) }
+{
+    match scene.layers.get(0) {
+        Some(body) => body.colour.is_some(),
+        None => false,
+    }
+}
+
+fn own_colour(state: &LayerState) -> Tint
+    requires { IsInSlots (state_as state.now) }
+    ensures { result ≡ definition.tint_by (definition.span_of (state_as state.now).red)
+        (definition.span_of (state_as state.now).green) (definition.span_of (state_as state.now).blue) }
+{
+    tint_by(span_of(state.r), span_of(state.g), span_of(state.b))
+}
+
+// The tint before any box is painted.
+fn ground(scene: &Scene, states: &[LayerState]) -> Tint
+    requires valid { IsValid scene.now }
+    requires states { length states.now ≡ length scene.now.layers }
+    requires ready { AreReady scene.now (states_as states.now) }
+    ensures { result ≡ definition.tint_ground scene.now (states_as states.now) }
+{
+    if has_ground(scene) {
+        own_colour(&states[0])
+    } else {
+        Tint {
+            lo: WHITE,
+            hi: WHITE,
+        }
+    }
+}
+
+/// The tint of a pixel, by the states of the layers: the least and the greatest colour that it may have, channel by
+/// channel. The canvas is white, the body paints every pixel where it has a colour, whatever its alpha, and the boxes follow
+/// in paint order, each blended in eight bits over what is there; where a box may or may not be shown there, the tint holds
+/// what is there with it and without it. By exact states it is the one colour that they paint.
+pub fn tint_of(scene: &Scene, states: &[LayerState], x: u16, y: u16) -> Tint
+    requires valid { IsValid scene.now }
+    requires states { length states.now ≡ length scene.now.layers }
+    requires ready { AreReady scene.now (states_as states.now) }
+    ensures value { result ≡ definition.tint_of scene.now (states_as states.now) x y }
+    ensures exact { (known : ℕ → State) → AreKnown scene.now (states_as states.now) known
+        → result ≡ definition.single (colours.painted scene.now known x y) }
+{
+    let mut tint = ground(scene, states);
+    for number in scene.order.as_slice() {
+        tint = with_box(&states[*number as usize], x, y, tint);
+    }
+    tint
+}
+
+/// The tint of a pixel in frame `k`. For a scene that can be painted it is the pixel's exact colour, as both ends.
+pub fn tint(scene: &Scene, setup: &Setup, k: u64, x: u16, y: u16) -> Tint
+    requires valid { IsValid scene.now }
+    requires painted { CanBePainted scene.now }
+    requires frame { k < 2 ^ 32 }
+    ensures own { (states : ℕ → LooseState) × AreOwn scene.now setup.now k states
+        × (result ≡ definition.tint_of scene.now states x y) }
+    ensures exact { result
+        ≡ definition.single (colours.painted scene.now (exact_states scene.now setup.now k) x y) }
+{
+    let mut all = [NOTHING; MOST_LAYERS];
+    let states = &mut all[..scene.layers.len()];
+    states_at(scene, setup, k, states);
+    tint_of(scene, states, x, y)
+}
