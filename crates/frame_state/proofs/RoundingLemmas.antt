@@ -2,14 +2,14 @@
 use Rattle.std.proofs.Common.{◌≡◌, ◌↔◌, ℕ, ◌+◌, ◌*◌, ◌<◌, ◌≤◌, ℤ, pos, negsuc, ◌+ℤ◌, ◌-ℤ◌, ◌*ℤ◌, ◌≤ℤ◌, ◌<ℤ◌, Bool, true, false, nat_lt, arith, refl, sym, ap, inl, inr, mul-le-mul, ltb-true, ltb-false}
 use Rattle.std.specs.Int.{int_div_euclid}
 use Rattle.std.proofs.lemmas.Bool.{cases_Bool}
-use Rattle.std.proofs.lemmas.Int.{ints, clamps}
+use Rattle.std.proofs.lemmas.Int.{ints, clamps, by_lt_z}
 use borrow.Author.Differences.{up, down, product_is}
 use Rattle.page_model.specs.declared.easing.Easing.{Easing}
 use Rattle.page_model.specs.declared.easing.Easing.TheVariants.{Linear, Steps, Cubic}
 use Rattle.page_model.specs.Curve.{FractionReaches, eased, stepped}
 use Rattle.page_model.specs.Enclosure.{IsHiddenSurely, IsLoose, IsShownSurely, Kind}
 use Rattle.page_model.specs.Fraction.{Fraction}
-use Rattle.page_model.specs.Slot.{Slot, IsGreatestIn, held, rounded, shown_value, slot_value, twice_the_way, twice_to_cover}
+use Rattle.page_model.specs.Slot.{Slot, IsGreatestIn, IsHiddenExactlyWhere, IsShownValue, IsSlotValue, held, rounded, shown_value, slot_value, twice_the_way, twice_to_cover}
 use Rattle.fix_span.specs.IntLaws.{times_le}
 use Rattle.fix_span.specs.RoundingLaws.{at_most_floor, floor_above, floor_at_most}
 use Rattle.easing_bounds.specs.Value.{is_cubic}
@@ -157,3 +157,54 @@ in_slot slot from to x some = record {
 } where
   itself : (v : ℤ) → v ≤ℤ v
   itself v = omega (arith, ints)
+
+-- and it is the only one
+only-greatest : (a b r v : ℤ) → a ≤ℤ v → v ≤ℤ b → (a <ℤ v → v ≤ℤ r) → (v <ℤ b → (v +ℤ pos 1) ≤ℤ r → ⊥)
+    → v ≡ held (record { unit = 1; least = a; greatest = b }) r
+only-greatest a b r v low high reached past =
+    by_lt_z a v
+    (λ above. let most = reached above in
+    by_lt_z v b
+    (λ inside. by_lt_z r (v +ℤ pos 1) (λ less. omega (arith, ints, clamps)) (λ next. absurd (past inside next)))
+    (λ top. omega (arith, ints, clamps)))
+    (λ bottom. by_lt_z v b
+    (λ inside. by_lt_z r (v +ℤ pos 1) (λ less. omega (arith, ints, clamps)) (λ next. absurd (past inside next)))
+    (λ top. omega (arith, ints, clamps)))
+
+greatest-only : (slot : Slot) (x : Fraction) (from to v : ℤ) → 0 < slot.unit → 0 < x.den
+    → IsGreatestIn slot (λ v. FractionReaches x (twice_the_way from to) (twice_to_cover slot from v)) v → v ≡ slot_value slot from to x
+greatest-only slot x from to v unit den is =
+    only-greatest slot.least slot.greatest (rounded slot from to x) v is.at_least is.at_most
+    (λ above. (reach-rounds slot x from to v unit den).0 (is.reached above))
+    (λ inside next. is.greatest inside ((reach-rounds slot x from to (v +ℤ pos 1) unit den).1 next))
+
+pub value-only : (slot : Slot) (easing : Easing) (at : Fraction) (from to v : ℤ) → is_cubic easing ≡ false → 0 < slot.unit
+    → 0 < (eased easing at).den → IsSlotValue slot easing at from to v → v ≡ slot_value slot from to (eased easing at)
+value-only slot Linear at from to v straight unit den is = greatest-only slot at from to v unit den is
+value-only slot (Steps count jump) at from to v straight unit den is = greatest-only slot (stepped count jump at) from to v unit den is
+value-only slot (Cubic x1 y1 x2 y2) at from to v straight unit den is = absurd (cc)
+
+hidden-only : (Hides : Type 0) (m n : ℕ) (shown : Bool) → (Hides ↔ (n ≤ m)) → IsHiddenExactlyWhere Hides shown → shown ≡ nat_lt m n
+hidden-only Hides m n true same is =
+    elim (cases_Bool (nat_lt m n)) [
+      | inl less ↦ sym less
+      | inr above ↦ absurd (is.visible refl (same.1 (ltb-false m n above)))
+    ]
+hidden-only Hides m n false same is =
+    elim (cases_Bool (nat_lt m n)) [
+      | inl less ↦ absurd (let h = ltb-true m n less in let k = same.0 (is.hidden refl) in omega arith)
+      | inr above ↦ sym above
+    ]
+
+pub shown-only : (easing : Easing) (at : Fraction) (from to shown : Bool) → is_cubic easing ≡ false → IsShownValue easing at from to shown
+    → shown ≡ shown_value from to (eased easing at)
+shown-only easing at true true shown straight is = is
+shown-only Linear at true false shown straight is = hidden-only (FractionReaches at (pos 1) (pos 1)) at.num at.den shown (one-reached at) is
+shown-only (Steps count jump) at true false shown straight is =
+    let x : Fraction = stepped count jump at in hidden-only (FractionReaches x (pos 1) (pos 1)) x.num x.den shown (one-reached x) is
+shown-only (Cubic x1 y1 x2 y2) at true false shown straight is = absurd (cc)
+shown-only Linear at false true shown straight is = hidden-only (FractionReaches at (negsuc 0) (pos 0)) 0 at.num shown (none-reached at) is
+shown-only (Steps count jump) at false true shown straight is =
+    let x : Fraction = stepped count jump at in hidden-only (FractionReaches x (negsuc 0) (pos 0)) 0 x.num shown (none-reached x) is
+shown-only (Cubic x1 y1 x2 y2) at false true shown straight is = absurd (cc)
+shown-only easing at false false shown straight is = is

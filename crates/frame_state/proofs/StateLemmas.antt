@@ -14,7 +14,7 @@ use Rattle.page_model.specs.declared.setup.Setup.{Setup}
 use Rattle.page_model.specs.Enclosure.{IsLooseOn, IsLooseStateAt, IsSurelyShownOn, IsSurelyShownWith, Kind, LooseState}
 use Rattle.page_model.specs.Fraction.{zero_of_one}
 use Rattle.page_model.specs.Keyframes.{Interval, last_of}
-use Rattle.page_model.specs.LayerAt.{Course, still, moving, alpha_of, blue_of, course_by, course_of, declared, green_of, interval_at, is_held, length_of, red_of, shown_on, shown_with, state_at, value_on, visible_of}
+use Rattle.page_model.specs.LayerAt.{Course, still, moving, IsShownOn, IsShownWith, IsStateAt, IsValueOn, State, alpha_of, blue_of, course_by, course_of, declared, green_of, interval_at, is_held, length_of, red_of, shown_on, shown_with, state_at, value_on, visible_of}
 use Rattle.page_model.specs.Progress.{above_zero, progress_of}
 use Rattle.page_model.specs.Slot.{Slot, alpha, channel, extent, position, shown_value}
 use Rattle.page_model.specs.ValidScene.{IsValid}
@@ -24,7 +24,7 @@ use Rattle.frame_state.specs.States.{IsInSlot, IsInSlots, known, one_value, stat
 use Rattle.frame_state.specs.Ways.{AreWays, IsPlain, Way, chosen, eased_way, shown_by, stays, value_by, way_found, way_in, way_of}
 use Rattle.frame_state.proofs.CourseLemmas.{cases_Option, interval_at-none, interval_at-some}
 use Rattle.frame_state.proofs.PlainLemmas.{All-filter_map, All-slice_get, interval-plain}
-use Rattle.frame_state.proofs.RoundingLemmas.{in_slot, loose-is, shown-is}
+use Rattle.frame_state.proofs.RoundingLemmas.{in_slot, loose-is, shown-is, shown-only, value-only}
 
 -- the way by what was found is that of the course
 chosen-is : (held : Bool) (own : Value) (found : Option Interval)
@@ -207,3 +207,48 @@ pub read-is : (layers xs : List Layer) (number : ℕ) (layer element : Layer) �
     → slice_get layers number ≡ Some layer → element ≡ layer
 read-is layers xs number layer element read same is =
     read ∙ ap (λ (ys : List Layer). get_or ys number element) same ∙ get_or_from_slice_get layers number layer element is
+
+-- and the exact state is no other
+value_on-only : (slot : Slot) (part : Value → ℤ) (course : Course) (v : ℤ) → 0 < slot.unit → IsPlainCourse course → 0 < (way_of course).part.den
+    → IsValueOn slot part course v → value_by slot part (way_of course) ≡ v
+value_on-only slot part (still x) v unit plain den is = sym (value-only slot Linear zero_of_one (part x) (part x) v refl unit (omega arith) is)
+value_on-only slot part (moving i) v unit plain den is =
+    sym (value-only slot i.easing i.distance (part i.from) (part i.to) v plain.straight unit den is)
+
+shown_on-only : (course : Course) (shown : Bool) → IsPlainCourse course → IsShownOn course shown → shown_by (way_of course) ≡ shown
+shown_on-only (still x) shown plain is = sym (is ∙ same_visible (visible_of x))
+shown_on-only (moving i) shown plain is =
+    sym (shown-only i.easing i.distance (visible_of i.from) (visible_of i.to) shown plain.straight is)
+
+shown_with-only : (colour : Option Rgb) (course : Course) (shown : Bool) → IsPlainCourse course → IsShownWith colour course shown
+    → sure_with colour (way_of course) ≡ sure_of shown
+shown_with-only None course shown plain is = ap sure_of (sym is)
+shown_with-only (Some c) course shown plain is = ap sure_of (shown_on-only course shown plain is)
+
+pub state_by-only : (scene : Scene) (setup : Setup) (frame number : ℕ) (layer : Layer) (state : State) → IsValid scene → CanBePainted scene
+    → slice_get scene.layers number ≡ Some layer → ((prop : Prop) → 0 < (course_way scene setup frame layer prop).part.den)
+    → IsStateAt scene setup frame layer state → state_by layer (course_way scene setup frame layer) ≡ known state
+state_by-only scene setup frame number layer state valid painted layer_is den is =
+    let course : Prop → Course = course_of scene setup frame layer in
+    let plain : (prop : Prop) → IsPlainCourse (course_of scene setup frame layer prop) =
+    λ prop. course-plain scene setup frame number layer prop valid painted layer_is in
+    let red = value_on-only channel red_of (course Background) (pos state.red) (omega arith) (plain Background) (den Background) is.is_red in
+    let green = value_on-only channel green_of (course Background) (pos state.green) (omega arith) (plain Background) (den Background) is.is_green in
+    let blue = value_on-only channel blue_of (course Background) (pos state.blue) (omega arith) (plain Background) (den Background) is.is_blue in
+    let opaque = value_on-only alpha alpha_of (course Opacity) (pos state.alpha) (omega arith) (plain Opacity) (den Opacity) is.is_alpha in
+    let shown = shown_with-only layer.colour (course Visibility) state.shown (plain Visibility) is.is_shown in
+    let left = value_on-only position length_of (course Left) state.left (omega arith) (plain Left) (den Left) is.is_left in
+    let top = value_on-only position length_of (course Top) state.top (omega arith) (plain Top) (den Top) is.is_top in
+    let width = value_on-only extent length_of (course Width) state.width (omega arith) (plain Width) (den Width) is.is_width in
+    let height = value_on-only extent length_of (course Height) state.height (omega arith) (plain Height) (den Height) is.is_height in
+    λ i. record {
+      red = one_value (red i);
+      green = one_value (green i);
+      blue = one_value (blue i);
+      alpha = one_value (opaque i);
+      shown = shown i;
+      left = one_value (left i);
+      top = one_value (top i);
+      width = one_value (width i);
+      height = one_value (height i);
+    }

@@ -7,7 +7,7 @@ use Rattle.page_model.specs.declared.scene.Layer.{Layer}
 use Rattle.page_model.specs.declared.scene.Scene.{Scene}
 use Rattle.page_model.specs.declared.setup.Setup.{Setup}
 use Rattle.page_model.specs.Enclosure.{Loose, LooseState, Sureness, surely, surely_not, maybe, own, IsLooseStateAt}
-use Rattle.page_model.specs.LayerAt.{State, state_at, red_of, green_of, blue_of, alpha_of, length_of}
+use Rattle.page_model.specs.LayerAt.{IsStateAt, State, state_at, red_of, green_of, blue_of, alpha_of, length_of}
 use Rattle.page_model.specs.Slot.{Slot, channel, alpha, position, extent}
 use Rattle.fix_span.specs.declared.loose.Loose.{Loose as Ends}
 use Rattle.frame_state.specs.declared.slots.Slot.{Slot as Held}
@@ -96,15 +96,22 @@ nothing = record {
 abbrev pub states_as : List LayerState → ℕ → LooseState
 states_as states number = unwrap_or (option_map state_as (slice_get states number)) nothing
 
--- the states of all layers are those of the own kind, and they are the exact ones
+-- the states of all layers are those of the own kind; they have the values that are computed; and they are the exact states, whatever
+-- these are
 abbrev pub AreOwn : Scene → Setup → ℕ → (ℕ → LooseState) → Type 0
 AreOwn scene setup frame states =
     (number : ℕ) (layer : Layer) → slice_get scene.layers number ≡ Some layer → IsLooseStateAt own scene setup frame layer (states number)
 
-abbrev pub AreExact : Scene → Setup → ℕ → (ℕ → LooseState) → Type 0
-AreExact scene setup frame states =
+abbrev pub AreComputed : Scene → Setup → ℕ → (ℕ → LooseState) → Type 0
+AreComputed scene setup frame states =
     (number : ℕ) (layer : Layer) → slice_get scene.layers number ≡ Some layer → states number ≡ known (state_at scene setup frame layer)
 
+abbrev pub AreExact : Scene → Setup → ℕ → (ℕ → LooseState) → Type 0
+AreExact scene setup frame states =
+    (number : ℕ) (layer : Layer) (state : State) → slice_get scene.layers number ≡ Some layer → IsStateAt scene setup frame layer state
+    → states number ≡ known state
+
+-- the states of all layers are within their slots
 abbrev pub AreInSlots : Scene → (ℕ → LooseState) → Type 0
 AreInSlots scene states = (number : ℕ) → number < length scene.layers → IsInSlots (states number)
 

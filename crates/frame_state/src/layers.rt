@@ -7,7 +7,7 @@ ghost use Rattle.page_model.specs.LayerAt as definition;
 ghost use Rattle.page_model.specs.Slot as slots;
 ghost use Rattle.page_model.specs.ValidScene.{IsValid};
 ghost use Rattle.frame_state.specs.Scenes.{CanBePainted};
-ghost use Rattle.frame_state.specs.States.{slot_as, loose_as, sureness_of, state_as, states_as, one_value, sure_with, state_by, known, IsInSlots, AreOwn, AreExact, AreInSlots};
+ghost use Rattle.frame_state.specs.States.{slot_as, loose_as, sureness_of, state_as, states_as, one_value, sure_with, state_by, known, IsInSlots, AreOwn, AreComputed, AreExact, AreInSlots};
 ghost use Rattle.frame_state.specs.Ways.{way_as, way_in, shown_by as is_shown_by, value_by};
 
 use crate::parts::{alpha_of, blue_of, green_of, length_of, red_of, visible_of};
@@ -109,8 +109,10 @@ pub fn layer_at(scene: &Scene, setup: &Setup, k: u64, layer: u16) -> LayerState
     requires painted { CanBePainted scene.now }
     requires there { layer < length scene.now.layers }
     requires frame { k < 2 ^ 32 }
-    ensures exact { (l : Element) → slice_get scene.now.layers layer ≡ Some l
+    ensures computed { (l : Element) → slice_get scene.now.layers layer ≡ Some l
         → state_as result ≡ known (definition.state_at scene.now setup.now k l) }
+    ensures exact { (l : Element) (state : definition.State) → slice_get scene.now.layers layer ≡ Some l
+        → definition.IsStateAt scene.now setup.now k l state → state_as result ≡ known state }
     ensures own { (l : Element) → slice_get scene.now.layers layer ≡ Some l
         → IsLooseStateAt own scene.now setup.now k l (state_as result) }
     ensures ranges { IsInSlots (state_as result) }
@@ -126,6 +128,7 @@ pub fn states_at(scene: &Scene, setup: &Setup, k: u64, out: &mut [LayerState])
     requires painted { CanBePainted scene.now }
     requires frame { k < 2 ^ 32 }
     requires room { length out.old ≡ length scene.now.layers }
+    ensures computed { AreComputed scene.now setup.now k (states_as out.new) }
     ensures exact { AreExact scene.now setup.now k (states_as out.new) }
     ensures own { AreOwn scene.now setup.now k (states_as out.new) }
     ensures ranges { AreInSlots scene.now (states_as out.new) }

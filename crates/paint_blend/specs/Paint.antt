@@ -5,7 +5,7 @@ use Rattle.page_model.specs.declared.scene.Layer.{Layer}
 use Rattle.page_model.specs.declared.scene.Scene.{Scene}
 use Rattle.page_model.specs.declared.setup.Setup.{Setup}
 use Rattle.page_model.specs.Enclosure.{LooseState}
-use Rattle.page_model.specs.LayerAt.{State, state_at}
+use Rattle.page_model.specs.LayerAt.{IsStateAt, State, state_at}
 use Rattle.page_model.specs.TintOf as definition
 use Rattle.page_model.specs.TintOf.{both, covers_surely, painted_where, tint_over}
 use Rattle.frame_state.specs.declared.types.LayerState.{LayerState}
@@ -29,7 +29,12 @@ AreReady scene states =
 abbrev pub AreKnown : Scene → (ℕ → LooseState) → (ℕ → State) → Type 0
 AreKnown scene loose states = (number : ℕ) → number < length scene.layers → loose number ≡ known (states number)
 
--- the exact states of all layers in a frame, by number; of a layer that isn't there nothing is shown
+-- states are the exact ones of all layers in a frame
+abbrev pub AreStates : Scene → Setup → ℕ → (ℕ → State) → Type 0
+AreStates scene setup frame states =
+    (number : ℕ) (layer : Layer) → slice_get scene.layers number ≡ Some layer → IsStateAt scene setup frame layer (states number)
+
+-- the states that are computed, by number; of a layer that isn't there nothing is shown
 abbrev pub no_state : State
 no_state = record {
   red = 0;
@@ -43,5 +48,5 @@ no_state = record {
   height = pos 0;
 }
 
-abbrev pub exact_states : Scene → Setup → ℕ → ℕ → State
-exact_states scene setup frame number = unwrap_or (option_map (state_at scene setup frame) (slice_get scene.layers number)) no_state
+abbrev pub computed_states : Scene → Setup → ℕ → ℕ → State
+computed_states scene setup frame number = unwrap_or (option_map (state_at scene setup frame) (slice_get scene.layers number)) no_state

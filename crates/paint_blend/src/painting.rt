@@ -7,7 +7,7 @@ ghost use Rattle.page_model.specs.TintOf as definition;
 ghost use Rattle.page_model.specs.ValidScene.{IsValid};
 ghost use Rattle.frame_state.specs.Scenes.{CanBePainted};
 ghost use Rattle.frame_state.specs.States.{AreOwn, IsInSlots, state_as, states_as};
-ghost use Rattle.paint_blend.specs.Paint.{AreKnown, AreReady, box_over, exact_states, span_as};
+ghost use Rattle.paint_blend.specs.Paint.{AreKnown, AreReady, AreStates, box_over, computed_states, span_as};
 
 use crate::blending::{blended_span, hull, span_of};
 use crate::covering::{both, covers};
@@ -179,8 +179,10 @@ pub fn tint(scene: &Scene, setup: &Setup, k: u64, x: u16, y: u16) -> Tint
     requires frame { k < 2 ^ 32 }
     ensures own { (states : ℕ → LooseState) × AreOwn scene.now setup.now k states
         × (result ≡ definition.tint_of scene.now states x y) }
-    ensures exact { result
-        ≡ definition.single (colours.painted scene.now (exact_states scene.now setup.now k) x y) }
+    ensures computed { result
+        ≡ definition.single (colours.painted scene.now (computed_states scene.now setup.now k) x y) }
+    ensures exact { (states : ℕ → State) → AreStates scene.now setup.now k states
+        → result ≡ definition.single (colours.painted scene.now states x y) }
 {
     let mut all = [NOTHING; MOST_LAYERS];
     let states = &mut all[..scene.layers.len()];
