@@ -1,5 +1,5 @@
 -- The way of a property by one more animation.
-use Rattle.std.proofs.Common.{◌≡◌, ◌⊎◌, inl, inr, ℕ, ◌+◌, ◌-◌, ◌<◌, suc, List, [], ◌∷◌, ◌++◌, Option, Some, None, filter_map, length, get_or, slice_get, take, option_map, option_and_then, add-one, append-nil, arith, refl, sym, ap, ◌∙◌}
+use Rattle.std.proofs.Common.{◌≡◌, ◌⊎◌, inl, inr, ℕ, ◌+◌, ◌-◌, ◌<◌, suc, List, [], ◌∷◌, ◌++◌, Option, Some, None, filter_map, length, get_or, slice_get, take, option_map, add-one, append-nil, arith, refl, sym, ap, ◌∙◌}
 use Rattle.std.specs.List.{cons_option}
 use Rattle.std.proofs.lemmas.List.Elements.{filter_map-append}
 use Rattle.std.proofs.lemmas.Option.{slice_get-get_or}
@@ -12,12 +12,12 @@ use Rattle.page_model.specs.declared.scene.Layer.{Layer}
 use Rattle.page_model.specs.declared.scene.Scene.{Scene}
 use Rattle.page_model.specs.declared.setup.Setup.{Setup}
 use Rattle.page_model.specs.Fraction.{Fraction}
-use Rattle.page_model.specs.Keyframes.{Interval, interval_of, last_of}
+use Rattle.page_model.specs.Keyframes.{Interval, last_of}
 use Rattle.page_model.specs.LayerAt.{declared, interval_at}
 use Rattle.page_model.specs.Progress.{progress_of}
 use Rattle.fix_span.specs.declared.frac.Frac.{Frac}
 use Rattle.fix_span.specs.Frac.{frac_of, fraction_of}
-use Rattle.keyframe_sets.specs.Here.{interval_by, interval_here}
+use Rattle.keyframe_sets.specs.Here.{interval_here}
 use Rattle.frame_state.proofs.PlainLemmas.{mapped_some}
 use Rattle.frame_state.specs.Ways.{Way, eased_way, last_way, later}
 

@@ -1,6 +1,6 @@
 -- The number on the way from one whole number to another: where it lies, that what is computed on the way fits, and that its rounding is
 -- the definition's.
-use Rattle.std.proofs.Common.{ℕ, ℤ, pos, neg_ℤ, negsuc, ◌≡◌, ◌+◌, ◌-◌, ◌*◌, ◌^◌, ◌<◌, ◌≤◌, ◌+ℤ◌, ◌-ℤ◌, ◌*ℤ◌, ◌≤ℤ◌, ◌<ℤ◌, FitsSigned, nat_abs, arith, ap, ◌∙◌, refl, sym, subst}
+use Rattle.std.proofs.Common.{ℕ, ℤ, pos, neg_ℤ, negsuc, ◌≡◌, ◌+◌, ◌-◌, ◌*◌, ◌^◌, ◌<◌, ◌≤◌, ◌+ℤ◌, ◌-ℤ◌, ◌*ℤ◌, ◌≤ℤ◌, FitsSigned, nat_abs, arith, ap, ◌∙◌, refl, sym, subst}
 use Rattle.std.specs.Int.{int_div_euclid, w32, w128}
 use Rattle.std.proofs.lemmas.Int.{ints}
 use Rattle.std.proofs.Math.IntN.{*ℤ_comm}

@@ -1,5 +1,5 @@
 -- The easing of an interval in a scene that can be painted is no curve.
-use Rattle.std.proofs.Common.{◌≡◌, ℕ, suc, zero, ◌-◌, Bool, true, false, not, ◌||◌, List, [], ◌∷◌, ◌++◌, All, IfSome, Option, Some, None, filter, filter_map, get_or, length, slice_get, if◌then◌else◌, option_map, option_and_then, unwrap_or, arith, refl, subst}
+use Rattle.std.proofs.Common.{◌≡◌, ℕ, suc, ◌-◌, Bool, true, false, not, List, [], ◌∷◌, ◌++◌, All, IfSome, Option, Some, None, filter, filter_map, get_or, length, slice_get, if◌then◌else◌, option_map, option_and_then, unwrap_or, arith, refl, subst}
 use Rattle.std.specs.List.{cons_option, list_any}
 use Rattle.std.proofs.lemmas.Bool.{and_parts, not-true, or_parts}
 use Rattle.std.proofs.lemmas.List.Elements.{All-append, All-cons, All-filter}

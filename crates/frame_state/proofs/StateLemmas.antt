@@ -1,5 +1,5 @@
 -- The state of a layer by the ways of its properties: it is the exact one, the own kind's, and in the ranges of its slots.
-use Rattle.std.proofs.Common.{◌≡◌, ℕ, ◌<◌, ◌-◌, ℤ, pos, negsuc, ◌≤ℤ◌, Bool, true, false, List, [], ◌∷◌, All, Option, Some, None, filter_map, get_or, length, slice_get, if◌then◌else◌, option_map, option_and_then, arith, refl, sym, ap, ◌∙◌, subst, inl, inr}
+use Rattle.std.proofs.Common.{◌≡◌, ℕ, ◌<◌, ◌-◌, ℤ, pos, negsuc, ◌≤ℤ◌, Bool, true, false, List, Option, Some, None, filter_map, get_or, length, slice_get, if◌then◌else◌, option_map, arith, refl, sym, ap, ◌∙◌, subst, inl, inr}
 use Rattle.std.proofs.lemmas.Int.{ints}
 use Rattle.std.proofs.lemmas.Option.{get_or_from_slice_get, slice_get-get_or}
 use Rattle.page_model.specs.declared.animation.Anim.{Anim}
@@ -20,8 +20,8 @@ use Rattle.page_model.specs.Slot.{Slot, alpha, channel, extent, position, shown_
 use Rattle.page_model.specs.ValidScene.{IsValid}
 use Rattle.frame_state.specs.declared.way.Ways.{Ways}
 use Rattle.frame_state.specs.Scenes.{CanBePainted}
-use Rattle.frame_state.specs.States.{IsInSlot, IsInSlots, known, one_value, state_by, sure_of, sure_with}
-use Rattle.frame_state.specs.Ways.{AreWays, IsPlain, Way, chosen, eased_way, shown_by, stays, value_by, way_found, way_in, way_of}
+use Rattle.frame_state.specs.States.{IsInSlots, known, one_value, state_by, sure_of, sure_with}
+use Rattle.frame_state.specs.Ways.{AreWays, IsPlain, Way, chosen, eased_way, shown_by, value_by, way_in, way_of}
 use Rattle.frame_state.proofs.CourseLemmas.{cases_Option, interval_at-none, interval_at-some}
 use Rattle.frame_state.proofs.PlainLemmas.{All-filter_map, All-slice_get, interval-plain}
 use Rattle.frame_state.proofs.RoundingLemmas.{in_slot, loose-is, shown-is, shown-only, value-only}

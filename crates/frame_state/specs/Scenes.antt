@@ -1,12 +1,11 @@
 -- What kinds of animations a scene has, and so whether its frames can be painted: the project's own. A set of keyframes is in use
 -- where an animation of a layer has its number.
-use Rattle.std.specs.Prelude.{ℕ, Bool, true, false, not, Option, None, Some, ◌==◌, ◌&&◌, ◌||◌, List, slice_get, nat_lt, IsTrue}
+use Rattle.std.specs.Prelude.{Bool, true, false, not, Option, None, Some, ◌==◌, ◌&&◌, ◌||◌, List, slice_get, nat_lt, IsTrue}
 use Rattle.std.specs.List.{list_any}
 use Rattle.page_model.specs.declared.animation.Anim.{Anim}
 use Rattle.page_model.specs.declared.animation.Count.{Count}
 use Rattle.page_model.specs.declared.animation.Count.TheVariants.{Times, Infinite}
 use Rattle.page_model.specs.declared.colour.Rgb.{Rgb}
-use Rattle.page_model.specs.declared.easing.Easing.{Easing}
 use Rattle.page_model.specs.declared.keyframe.Keyframe.{Keyframe}
 use Rattle.page_model.specs.declared.keyframe.KeyframeSet.{KeyframeSet}
 use Rattle.page_model.specs.declared.property.Prop.TheVariants.{Left, Top, Width, Height}

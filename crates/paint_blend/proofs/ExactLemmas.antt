@@ -1,15 +1,15 @@
 -- By known states a tint is the one colour that they paint.
-use Rattle.std.proofs.Common.{◌≡◌, ℕ, ◌<◌, ◌≤◌, Bool, true, false, ◌&&◌, List, [], ◌∷◌, All, get_or, length, if◌then◌else◌, arith, refl, sym, ap, ◌∙◌, inl, inr}
-use Rattle.std.specs.Prelude.{ℤ, pos, ◌+ℤ◌, ◌≤ℤ◌, ◌<ℤ◌, int_lt, int_le, min, max, fold, is_some}
+use Rattle.std.proofs.Common.{◌≡◌, ℕ, Bool, true, false, ◌&&◌, List, [], ◌∷◌, All, get_or, if◌then◌else◌, arith, refl, ap, ◌∙◌, inl, inr}
+use Rattle.std.specs.Prelude.{ℤ, pos, ◌+ℤ◌, int_lt, int_le, min, max, fold, is_some}
 use Rattle.std.proofs.lemmas.Bool.{cases_Bool}
 use Rattle.std.proofs.lemmas.Int.{ints}
 use Rattle.std.proofs.lemmas.List.Elements.{All-contains_itself, All-head, All-tail}
-use borrow.Author.Differences.{lt-true, lt-false, le-true, le-false}
+use borrow.Author.Differences.{lt-true, lt-false}
 use Rattle.page_model.specs.declared.colour.Rgb.{Rgb}
 use Rattle.page_model.specs.declared.colour.Tint.{Tint}
 use Rattle.page_model.specs.declared.scene.Scene.{Scene}
 use Rattle.page_model.specs.Colour.{blended, body_colour, covers, ground, over, paint_box, painted, spans}
-use Rattle.page_model.specs.Enclosure.{LooseState, Sureness, surely, surely_not, maybe}
+use Rattle.page_model.specs.Enclosure.{LooseState}
 use Rattle.page_model.specs.LayerAt.{State}
 use Rattle.page_model.specs.TintOf.{Span, blended_span, both, painted_where, single, spans_surely, tint_box, tint_ground, tint_of, tint_over}
 use Rattle.page_model.specs.ValidScene.{IsValid}

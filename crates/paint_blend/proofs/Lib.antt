@@ -1,3 +1,4 @@
 mod ExactLemmas
+mod ExampleLemmas
 mod ReadyLemmas
 mod SpanLemmas

@@ -1,1 +1,2 @@
+pub mod ExamplePage
 pub mod Paint

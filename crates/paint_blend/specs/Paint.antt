@@ -1,5 +1,5 @@
 -- The code's own types as the definitions have them, and which states can be painted.
-use Rattle.std.specs.Prelude.{ℕ, ℤ, pos, false, Option, Some, None, ◌≡◌, ◌<◌, ◌≤◌, List, length, slice_get, IsSome, option_map, unwrap_or}
+use Rattle.std.specs.Prelude.{ℕ, pos, false, Some, ◌≡◌, ◌<◌, length, slice_get, IsSome, option_map, unwrap_or}
 use Rattle.page_model.specs.declared.colour.Tint.{Tint}
 use Rattle.page_model.specs.declared.scene.Layer.{Layer}
 use Rattle.page_model.specs.declared.scene.Scene.{Scene}
@@ -8,8 +8,7 @@ use Rattle.page_model.specs.Enclosure.{LooseState}
 use Rattle.page_model.specs.LayerAt.{IsStateAt, State, state_at}
 use Rattle.page_model.specs.TintOf as definition
 use Rattle.page_model.specs.TintOf.{both, covers_surely, painted_where, tint_over}
-use Rattle.frame_state.specs.declared.types.LayerState.{LayerState}
-use Rattle.frame_state.specs.States.{IsInSlots, known, states_as}
+use Rattle.frame_state.specs.States.{IsInSlots, known}
 use Rattle.paint_blend.specs.declared.span.Span.{Span}
 
 abbrev pub span_as : Span → definition.Span

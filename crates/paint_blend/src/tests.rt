@@ -1,7 +1,8 @@
 // Pixels by value, against an outside reckoning.
-ghost use Rattle.std.specs.Prelude.{IfOk};
+ghost use Rattle.std.specs.Prelude.{◌≡◌, IfOk};
 ghost use Rattle.page_model.specs.ValidScene.{IsValid};
 ghost use Rattle.frame_state.specs.Scenes.{CanBePainted};
+ghost use Rattle.paint_blend.specs.ExamplePage.{the_body, the_box, the_set};
 
 use super::*;
 use page_model::{
@@ -21,9 +22,15 @@ const NOT_HELD: Held = Held {
     height: false,
 };
 
-fn body(alloc: Global) -> Layer {
+fn body(alloc: Global) -> Layer
+    ensures { result ≡ the_body }
+{
     Layer {
-        colour: Some(Rgb { r: 94, g: 236, b: 84 }),
+        colour: Some(Rgb {
+            r: 94,
+            g: 236,
+            b: 84,
+        }),
         opacity: 1000,
         shown: true,
         left: 0,
@@ -37,7 +44,9 @@ fn body(alloc: Global) -> Layer {
 }
 
 // A box of 7 by 8 pixels at (2, 4), which fades away each second.
-fn fading_box(alloc: Global) -> Result<Layer, Fail> {
+fn fading_box(alloc: Global) -> Result<Layer, Fail>
+    ensures { IfOk result (λ layer. layer ≡ the_box) }
+{
     let fades = Anim {
         set: 0,
         duration: 1000,
@@ -49,7 +58,11 @@ fn fading_box(alloc: Global) -> Result<Layer, Fail> {
         paused: false,
     };
     Ok(Layer {
-        colour: Some(Rgb { r: 112, g: 48, b: 126 }),
+        colour: Some(Rgb {
+            r: 112,
+            g: 48,
+            b: 126,
+        }),
         opacity: 1000,
         shown: true,
         left: 200,
@@ -63,7 +76,9 @@ fn fading_box(alloc: Global) -> Result<Layer, Fail> {
 }
 
 // The end of the fading: not to be seen.
-fn fading(alloc: Global) -> Result<KeyframeSet, Fail> {
+fn fading(alloc: Global) -> Result<KeyframeSet, Fail>
+    ensures { IfOk result (λ set. set ≡ the_set) }
+{
     let clear = Setting {
         prop: Prop::Opacity,
         value: Value::Opacity(0),
@@ -105,7 +120,14 @@ fn a_box_fades(rt: HostRuntime) -> Result<(), Fail> {
         (0, 8, 12, 94, 236, 84),
     ] {
         let wanted = Rgb { r, g, b };
-        assert_eq!(rt; tint(&scene, &setup, frame, x, y), Tint { lo: wanted, hi: wanted }, "{frame} {x} {y}");
+        assert_eq!(rt;
+            tint(&scene, &setup, frame, x, y),
+            Tint {
+                lo: wanted,
+                hi: wanted
+            },
+            "{frame} {x} {y}"
+        );
     }
     Ok(())
 }

@@ -1,5 +1,5 @@
 -- Each part by the way of its property.
-use Rattle.std.proofs.Common.{◌≡◌, ◌<◌, ap, ◌∙◌, subst, sym}
+use Rattle.std.proofs.Common.{◌<◌, ap, ◌∙◌, subst}
 use Rattle.page_model.specs.declared.property.Prop.TheVariants.{Background, Opacity, Visibility, Left, Top, Width, Height}
 use Rattle.page_model.specs.LayerAt.{red_of, green_of, blue_of, alpha_of, length_of}
 use Rattle.page_model.specs.Slot.{channel, alpha, position, extent}

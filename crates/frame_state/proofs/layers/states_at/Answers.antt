@@ -1,8 +1,8 @@
 -- One more layer's state, and all layers in the end.
-use Rattle.std.proofs.Common.{◌≡◌, ◌<◌, ℕ, Some, slice_get, length, arith}
+use Rattle.std.proofs.Common.{◌≡◌, ◌<◌, Some, slice_get, length, arith}
 use Rattle.std.proofs.lemmas.Option.{slice_get_within}
 use Rattle.page_model.specs.declared.scene.Layer.{Layer}
-use Rattle.page_model.specs.Enclosure.{IsLooseStateAt, LooseState, own}
+use Rattle.page_model.specs.Enclosure.{IsLooseStateAt, own}
 use Rattle.page_model.specs.LayerAt.{IsStateAt, State, state_at}
 use Rattle.frame_state.specs.States.{IsInSlots, known}
 use Rattle.frame_state.proofs.ListLemmas.{states_more}

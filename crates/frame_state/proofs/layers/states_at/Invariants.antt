@@ -1,5 +1,5 @@
 -- The states of the layers passed.
-use Rattle.std.proofs.Common.{◌≡◌, ◌<◌, ℕ, Some, slice_get, length}
+use Rattle.std.proofs.Common.{◌≡◌, ◌<◌, ℕ, Some, slice_get}
 use Rattle.page_model.specs.declared.scene.Layer.{Layer}
 use Rattle.page_model.specs.Enclosure.{IsLooseStateAt, own}
 use Rattle.page_model.specs.LayerAt.{IsStateAt, State, state_at}

@@ -1,8 +1,8 @@
 -- The three steps of mixing, of small numbers and a share with few parts.
-use Rattle.std.proofs.Common.{ℤ, ◌≡◌, ◌∙◌, ap, arith, sym}
+use Rattle.std.proofs.Common.{◌≡◌, ◌∙◌, ap, arith}
 use Rattle.std.proofs.lemmas.Int.{ints}
 use Rattle.fix_span.specs.declared.frac.Frac.{Frac}
-use Rattle.fix_span.specs.Frac.{Fits, difference, product, sum, whole_frac}
+use Rattle.fix_span.specs.Frac.{product, whole_frac}
 use Rattle.frame_state.proofs.MixLemmas.{IsSmall, difference-fits, part-fits, all-fits, mixed-is}
 use Rattle.frame_state.proofs.slots.between.Goals as goal
 

@@ -1,10 +1,7 @@
 -- The rounding fits, and is the definition's.
-use Rattle.std.proofs.Common.{ℤ, ◌≡◌, ◌+ℤ◌, ◌-ℤ◌, ◌*ℤ◌, pos, ◌∙◌, ap, arith, sym, subst, FitsSigned}
+use Rattle.std.proofs.Common.{ap, arith}
 use Rattle.std.specs.Int.{w32}
 use Rattle.std.proofs.lemmas.Int.{ints, to_z-of_z}
-use Rattle.fix_span.specs.declared.frac.Frac.{Frac}
-use Rattle.fix_span.specs.Frac.{CanRound, fraction_of, frac_of, half_up}
-use Rattle.page_model.specs.Enclosure.{Loose}
 use Rattle.frame_state.specs.States.{slot_as, one_value}
 use Rattle.frame_state.proofs.MixLemmas.{IsSmall, mixed-rounded, mixed-can_round}
 use Rattle.frame_state.proofs.slots.rounded.Goals as goal

@@ -1,5 +1,5 @@
 -- The interval has a plain easing.
-use Rattle.std.proofs.Common.{◌≡◌, Some, option_map, sym, subst, arith}
+use Rattle.std.proofs.Common.{sym, subst}
 use Rattle.fix_span.specs.Frac.{fraction_of}
 use Rattle.keyframe_sets.specs.declared.types.Interval.{Interval}
 use Rattle.keyframe_sets.specs.Here.{interval_here}

@@ -1,5 +1,5 @@
 -- One more animation, with an effect or without.
-use Rattle.std.proofs.Common.{Option, Some, None, slice_get, ap, ◌∙◌, sym}
+use Rattle.std.proofs.Common.{ap, ◌∙◌}
 use Rattle.frame_state.specs.declared.way.Ways.{Ways}
 use Rattle.frame_state.specs.Ways.{way_found}
 use Rattle.frame_state.proofs.CourseLemmas.{way-none, way-some}

@@ -1,6 +1,5 @@
 -- The tests are those of the definition.
-use Rattle.std.proofs.Common.{ℕ, arith}
-use Rattle.std.specs.Prelude.{ℤ, pos, ◌+ℤ◌, ◌≤ℤ◌, ◌<ℤ◌}
+use Rattle.std.proofs.Common.{arith}
 use Rattle.std.proofs.lemmas.Int.{ints}
 use Rattle.frame_state.specs.States.{loose_as}
 use Rattle.paint_blend.proofs.SpanLemmas.{spans-past, spans-inside, spans-late, spans-early}

@@ -1,5 +1,5 @@
 -- The body has a colour, so its state is ready.
-use Rattle.std.proofs.Common.{◌∙◌, sym, arith}
+use Rattle.std.proofs.Common.{◌∙◌, sym}
 use Rattle.paint_blend.proofs.ReadyLemmas.{ground-ready}
 use Rattle.paint_blend.proofs.painting.ground.Goals as goal
 

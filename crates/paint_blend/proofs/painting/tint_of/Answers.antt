@@ -1,10 +1,9 @@
 -- The boxes are there and ready; one more is painted; and known states paint one colour.
-use Rattle.std.proofs.Common.{ℕ, List, ◌≡◌, ◌<◌, ◌≤◌, ◌∙◌, ap, sym, length, get_or, take, arith}
+use Rattle.std.proofs.Common.{ℕ, List, ◌≡◌, ◌<◌, ◌∙◌, ap, length, take, arith}
 use Rattle.std.specs.Prelude.{fold}
 use Rattle.std.proofs.lemmas.List.{take_all}
 use Rattle.page_model.specs.TintOf.{tint_box, tint_ground}
-use Rattle.frame_state.specs.States.{state_as, states_as}
-use Rattle.paint_blend.specs.Paint.{box_over}
+use Rattle.frame_state.specs.States.{states_as}
 use Rattle.paint_blend.proofs.ExactLemmas.{tint_of-known}
 use Rattle.paint_blend.proofs.ReadyLemmas.{box-inside, box-more, box-ready}
 use Rattle.paint_blend.proofs.painting.tint_of.Goals as goal
