@@ -42,25 +42,29 @@ fn shown_with(colour: Option<Rgb>, way: Way) -> Shown
 // The channels and the alpha on a way.
 
 fn red_on(way: Way) -> Loose
-    ensures { loose_as result ≡ one_value (value_by slots.channel definition.red_of (way_as way)) }
+    ensures { loose_as result
+        ≡ one_value (value_by slots.channel definition.red_of (way_as way)) }
 {
     slot_value(CHANNEL, red_of(way.from), red_of(way.to), way.part)
 }
 
 fn green_on(way: Way) -> Loose
-    ensures { loose_as result ≡ one_value (value_by slots.channel definition.green_of (way_as way)) }
+    ensures { loose_as result
+        ≡ one_value (value_by slots.channel definition.green_of (way_as way)) }
 {
     slot_value(CHANNEL, green_of(way.from), green_of(way.to), way.part)
 }
 
 fn blue_on(way: Way) -> Loose
-    ensures { loose_as result ≡ one_value (value_by slots.channel definition.blue_of (way_as way)) }
+    ensures { loose_as result
+        ≡ one_value (value_by slots.channel definition.blue_of (way_as way)) }
 {
     slot_value(CHANNEL, blue_of(way.from), blue_of(way.to), way.part)
 }
 
 fn alpha_on(way: Way) -> Loose
-    ensures { loose_as result ≡ one_value (value_by slots.alpha definition.alpha_of (way_as way)) }
+    ensures { loose_as result
+        ≡ one_value (value_by slots.alpha definition.alpha_of (way_as way)) }
 {
     slot_value(ALPHA, alpha_of(way.from), alpha_of(way.to), way.part)
 }
@@ -68,7 +72,8 @@ fn alpha_on(way: Way) -> Loose
 // A length on a way, in whole pixels.
 fn pixels(slot: Slot, way: Way) -> Loose
     requires { 0 < slot.unit }
-    ensures { loose_as result ≡ one_value (value_by (slot_as slot) definition.length_of (way_as way)) }
+    ensures { loose_as result
+        ≡ one_value (value_by (slot_as slot) definition.length_of (way_as way)) }
 {
     slot_value(slot, length_of(way.from), length_of(way.to), way.part)
 }
@@ -98,10 +103,10 @@ fn state_of(layer: &Layer, ways: Ways) -> LayerState
     }
 }
 
-/// The state of a layer in frame `k`: for each property the value of the last animation in the layer's list that has an
-/// effect and names it, unless the winning declaration is important, and else the declared value; rounded half up and
-/// held in its range. A body without colour is not shown. For a scene that can be painted every value is exact, so
-/// both ends are the same, and nothing is shown `Maybe`.
+/// The state of a layer in frame `k`: for each property the value of the last animation in the layer's list
+/// that has an effect and names it, unless the winning declaration is important, and else the declared value;
+/// rounded half up and held in its range. A body without colour is not shown. For a scene that can be painted
+/// every value is exact, so both ends are the same, and nothing is shown `Maybe`.
 ///
 /// CSS Animations Level 1, "Keyframes", and CSS Cascading and Inheritance Level 4, "Cascading Origins".
 pub fn layer_at(scene: &Scene, setup: &Setup, k: u64, layer: u16) -> LayerState
@@ -111,7 +116,8 @@ pub fn layer_at(scene: &Scene, setup: &Setup, k: u64, layer: u16) -> LayerState
     requires frame { k < 2 ^ 32 }
     ensures computed { (l : Element) → slice_get scene.now.layers layer ≡ Some l
         → state_as result ≡ known (definition.state_at scene.now setup.now k l) }
-    ensures exact { (l : Element) (state : definition.State) → slice_get scene.now.layers layer ≡ Some l
+    ensures exact { (l : Element) (state : definition.State)
+        → slice_get scene.now.layers layer ≡ Some l
         → definition.IsStateAt scene.now setup.now k l state → state_as result ≡ known state }
     ensures own { (l : Element) → slice_get scene.now.layers layer ≡ Some l
         → IsLooseStateAt own scene.now setup.now k l (state_as result) }

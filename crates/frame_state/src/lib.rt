@@ -1,13 +1,13 @@
 //! The state of a layer in a frame: its colour, its alpha, whether it is shown and its box, in whole numbers.
 //!
-//! What paints a pixel asks this crate for the states of all layers; below it, timing says how far an animation is,
-//! the keyframe sets between which values a property then is, and the easing how far on its way. [`layer_at`] and
-//! [`states_at`] put these together: of a layer's animations the last that has an effect and names a property gives
-//! its value, unless the winning declaration is important, and each value is rounded half up and held in its range.
-//! Their key clause is that a state is that of the definitions, as the program's own kind of enclosure knows it; for
-//! the scenes that can be painted so far, without curves and without moving boxes, it is the exact state, both ends
-//! of each value being the same. [`can_be_painted`] says which scenes these are, and the calls beside it what kinds of
-//! animations a scene has. No call takes memory.
+//! What paints a pixel asks this crate for the states of all layers; below it, timing says how far an animation
+//! is, the keyframe sets between which values a property then is, and the easing how far on its way.
+//! [`layer_at`] and [`states_at`] put these together: of a layer's animations the last that has an effect and
+//! names a property gives its value, unless the winning declaration is important, and each value is rounded
+//! half up and held in its range. Their key clause is that a state is that of the definitions, as the program's
+//! own kind of enclosure knows it; for the scenes that can be painted so far, without curves and without moving
+//! boxes, it is the exact state, both ends of each value being the same. [`can_be_painted`] says which scenes
+//! these are, and the calls beside it what kinds of animations a scene has. No call takes memory.
 //!
 //! What a pixel then looks like is not said here.
 #![tactic(auto)]

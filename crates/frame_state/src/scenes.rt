@@ -96,7 +96,8 @@ fn never_ends(anim: &Anim) -> bool
 }
 
 fn set_runs_curved(sets: &[KeyframeSet], anim: &Anim) -> bool
-    ensures { result ≡ definition.set_passes (λ set. list_any definition.is_curved set.frames) sets.now anim.now }
+    ensures { result
+        ≡ definition.set_passes (λ set. list_any definition.is_curved set.frames) sets.now anim.now }
 {
     match sets.get(anim.set as usize) {
         Some(set) => some_curved(set.frames.as_slice()),
@@ -213,8 +214,8 @@ pub fn is_coloured(scene: &Scene) -> bool
         && (some_tinted(scene.layers.as_slice()) || some_animation(Question::HasTint, scene))
 }
 
-/// Whether the frames of the scene can be painted, which [`layer_at`](crate::layer_at) and all that stands on it
-/// ask for: it is neither cubic nor moving.
+/// Whether the frames of the scene can be painted, which [`layer_at`](crate::layer_at) and all that stands on
+/// it ask for: it is neither cubic nor moving.
 #[tactic(auto, unfolding(crate::specs::Scenes::can_be_painted))]
 pub fn can_be_painted(scene: &Scene) -> bool
     ensures { result ≡ definition.can_be_painted scene.now }

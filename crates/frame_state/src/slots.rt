@@ -53,7 +53,8 @@ fn rounded(slot: Slot, from: i32, to: i32, part: Frac) -> Loose
     requires unit { 0 < slot.unit }
     requires share { IsShare part }
     requires few { part.den ≤ℤ pos (2 ^ 48) }
-    ensures { loose_as result ≡ one_value (definition.rounded (slot_as slot) from to (fraction_of part)) }
+    ensures { loose_as result
+        ≡ one_value (definition.rounded (slot_as slot) from to (fraction_of part)) }
 {
     between(from, to, part).round_half_up(slot.unit)
 }
@@ -69,7 +70,8 @@ pub fn slot_value(slot: Slot, from: i32, to: i32, part: Frac) -> Loose
     requires unit { 0 < slot.unit }
     requires share { IsShare part }
     requires few { part.den ≤ℤ pos (2 ^ 48) }
-    ensures { loose_as result ≡ one_value (definition.slot_value (slot_as slot) from to (fraction_of part)) }
+    ensures { loose_as result
+        ≡ one_value (definition.slot_value (slot_as slot) from to (fraction_of part)) }
 {
     let value = rounded(slot, from, to, part);
     Loose {

@@ -38,8 +38,8 @@ fn set_of(
     })
 }
 
-// A black body, animated for ever by the set with this number: the first makes it red, and the second moves it, by a
-// curve.
+// A black body, animated for ever by the set with this number: the first makes it red, and the second moves it,
+// by a curve.
 fn animated_by(alloc: Global, set: u32) -> Result<Scene, Fail> {
     let curve = Easing::Cubic {
         x1: 250,

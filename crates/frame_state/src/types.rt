@@ -9,8 +9,8 @@ pub enum Shown {
     Maybe,
 }
 
-/// A layer in a frame, each number between its ends: the channels of its colour and its alpha from 0 to 255, and its
-/// box in whole pixels.
+/// A layer in a frame, each number between its ends: the channels of its colour and its alpha from 0 to 255,
+/// and its box in whole pixels.
 #[derive(Clone, Copy, Debug, PartialEq, Eq)]
 pub struct LayerState {
     pub shown: Shown,

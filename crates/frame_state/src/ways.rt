@@ -54,7 +54,8 @@ fn way_at(scene: &Scene, layer: u16, anim: u16, prop: Prop, at: Frac) -> Option<
     requires share { IsShare at }
     requires few { at.den ≤ℤ pos 24000000000 }
     ensures { option_map definition.way_as result
-        ≡ option_map definition.eased_way (interval_here scene.now layer anim prop (fraction_of at)) }
+        ≡ option_map definition.eased_way
+        (interval_here scene.now layer anim prop (fraction_of at)) }
 {
     match interval(scene, layer, anim, prop, at) {
         Some(interval) => Some(eased_way(interval)),
@@ -77,7 +78,8 @@ fn latest(
     requires few { at.den ≤ℤ pos 24000000000 }
     ensures { option_map definition.way_as result
         ≡ definition.later (option_map definition.way_as before)
-        (option_map definition.eased_way (interval_here scene.now layer anim prop (fraction_of at))) }
+        (option_map definition.eased_way
+        (interval_here scene.now layer anim prop (fraction_of at))) }
 {
     match way_at(scene, layer, anim, prop, at) {
         Some(way) => Some(way),
@@ -93,7 +95,8 @@ fn with_animation(scene: &Scene, layer: u16, anim: u16, at: Frac, ways: Ways) ->
     requires few { at.den ≤ℤ pos 24000000000 }
     ensures { (prop : Property) → definition.way_found result prop
         ≡ definition.later (definition.way_found ways prop)
-        (option_map definition.eased_way (interval_here scene.now layer anim prop (fraction_of at))) }
+        (option_map definition.eased_way
+        (interval_here scene.now layer anim prop (fraction_of at))) }
 {
     Ways {
         background: latest(scene, layer, anim, Prop::Background, at, ways.background),

@@ -131,7 +131,8 @@ fn has_ground(scene: &Scene) -> bool
 fn own_colour(state: &LayerState) -> Tint
     requires { IsInSlots (state_as state.now) }
     ensures { result ≡ definition.tint_by (definition.span_of (state_as state.now).red)
-        (definition.span_of (state_as state.now).green) (definition.span_of (state_as state.now).blue) }
+        (definition.span_of (state_as state.now).green)
+        (definition.span_of (state_as state.now).blue) }
 {
     tint_by(span_of(state.r), span_of(state.g), span_of(state.b))
 }
@@ -153,10 +154,11 @@ fn ground(scene: &Scene, states: &[LayerState]) -> Tint
     }
 }
 
-/// The tint of a pixel, by the states of the layers: the least and the greatest colour that it may have, channel by
-/// channel. The canvas is white, the body paints every pixel where it has a colour, whatever its alpha, and the boxes follow
-/// in paint order, each blended in eight bits over what is there; where a box may or may not be shown there, the tint holds
-/// what is there with it and without it. By exact states it is the one colour that they paint.
+/// The tint of a pixel, by the states of the layers: the least and the greatest colour that it may have,
+/// channel by channel. The canvas is white, the body paints every pixel where it has a colour, whatever its
+/// alpha, and the boxes follow in paint order, each blended in eight bits over what is there; where a box may
+/// or may not be shown there, the tint holds what is there with it and without it. By exact states it is the
+/// one colour that they paint.
 pub fn tint_of(scene: &Scene, states: &[LayerState], x: u16, y: u16) -> Tint
     requires valid { IsValid scene.now }
     requires states { length states.now ≡ length scene.now.layers }
@@ -172,15 +174,16 @@ pub fn tint_of(scene: &Scene, states: &[LayerState], x: u16, y: u16) -> Tint
     tint
 }
 
-/// The tint of a pixel in frame `k`. For a scene that can be painted it is the pixel's exact colour, as both ends.
+/// The tint of a pixel in frame `k`. For a scene that can be painted it is the pixel's exact colour, as both
+/// ends.
 pub fn tint(scene: &Scene, setup: &Setup, k: u64, x: u16, y: u16) -> Tint
     requires valid { IsValid scene.now }
     requires painted { CanBePainted scene.now }
     requires frame { k < 2 ^ 32 }
     ensures own { (states : ℕ → LooseState) × AreOwn scene.now setup.now k states
         × (result ≡ definition.tint_of scene.now states x y) }
-    ensures computed { result
-        ≡ definition.single (colours.painted scene.now (computed_states scene.now setup.now k) x y) }
+    ensures computed { result ≡ definition.single
+        (colours.painted scene.now (computed_states scene.now setup.now k) x y) }
     ensures exact { (states : ℕ → State) → AreStates scene.now setup.now k states
         → result ≡ definition.single (colours.painted scene.now states x y) }
 {
