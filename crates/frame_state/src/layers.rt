@@ -1,5 +1,5 @@
 // The state of a layer in a frame.
-ghost use Rattle.std.specs.Prelude.{Some, ℕ, ◌≡◌, ◌^◌, ◌<◌, length, slice_get};
+ghost use Rattle.std.specs.Prelude.{Some, ◌≡◌, ◌^◌, ◌<◌, length, slice_get};
 ghost use Rattle.page_model.specs.declared.property.Prop.{Prop as Property};
 ghost use Rattle.page_model.specs.declared.scene.Layer.{Layer as Element};
 ghost use Rattle.page_model.specs.Enclosure.{own, IsLooseStateAt};

@@ -1,5 +1,5 @@
 // What kinds of animations a scene has.
-ghost use Rattle.std.specs.Prelude.{◌≡◌, List};
+ghost use Rattle.std.specs.Prelude.{◌≡◌};
 ghost use Rattle.std.specs.List.{list_any};
 ghost use Rattle.easing_bounds.specs.Value as easings;
 ghost use Rattle.frame_state.specs.Questions.{answer_of};

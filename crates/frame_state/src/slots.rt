@@ -1,5 +1,5 @@
 // The whole values of slots, rounded half up and held in their ranges.
-ghost use Rattle.std.specs.Prelude.{◌≡◌, pos, ◌*◌, ◌^◌, ◌<◌, ◌+ℤ◌, ◌-ℤ◌, ◌*ℤ◌, ◌≤ℤ◌};
+ghost use Rattle.std.specs.Prelude.{◌≡◌, pos, ◌^◌, ◌<◌, ◌+ℤ◌, ◌-ℤ◌, ◌*ℤ◌, ◌≤ℤ◌};
 ghost use Rattle.page_model.specs.Slot as definition;
 ghost use Rattle.fix_span.specs.Frac.{fraction_of, IsShare};
 ghost use Rattle.frame_state.specs.States.{slot_as, loose_as, one_value};

@@ -1,6 +1,6 @@
 // What a scene is asked, and rounding by value.
 use super::*;
-use crate::slots::{ALPHA, POSITION, Slot, slot_value};
+use crate::slots::{ALPHA, POSITION, slot_value};
 use fix_span::{Frac, Loose};
 use page_model::{
     Anim, Count, Direction, Easing, Fill, Held, Keyframe, KeyframeSet, Layer, List, Prop, Rgb,

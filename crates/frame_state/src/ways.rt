@@ -1,12 +1,10 @@
 // The ways of a layer's properties.
-ghost use Rattle.std.specs.Prelude.{List, Some, length, ◌≡◌, ◌∷◌, ◌++◌, [], pos, ◌^◌, ◌<◌, ◌≤◌, ◌≤ℤ◌, All, slice_get, option_map};
-ghost use Rattle.page_model.specs.declared.animation.Anim.{Anim as Animation};
+ghost use Rattle.std.specs.Prelude.{Some, length, ◌≡◌, pos, ◌^◌, ◌<◌, ◌≤◌, ◌≤ℤ◌, All, slice_get, option_map};
 ghost use Rattle.page_model.specs.declared.property.Prop.{Prop as Property};
 ghost use Rattle.page_model.specs.declared.scene.Layer.{Layer as Element};
 ghost use Rattle.page_model.specs.LayerAt as shown;
-ghost use Rattle.page_model.specs.Progress.{progress_of};
 ghost use Rattle.page_model.specs.ValidScene.{IsValid};
-ghost use Rattle.fix_span.specs.Frac.{frac_of, fraction_of, IsShare};
+ghost use Rattle.fix_span.specs.Frac.{fraction_of, IsShare};
 ghost use Rattle.anim_timing.specs.Timed.{IsTimed};
 ghost use Rattle.keyframe_sets.specs.Here.{interval_here};
 ghost use Rattle.frame_state.specs.Scenes.{CanBePainted};

@@ -1,5 +1,5 @@
 // Channels over channels.
-ghost use Rattle.std.specs.Prelude.{◌≡◌, ◌≤◌, pos};
+ghost use Rattle.std.specs.Prelude.{◌≡◌};
 ghost use Rattle.page_model.specs.Colour as colours;
 ghost use Rattle.page_model.specs.Slot as slots;
 ghost use Rattle.page_model.specs.TintOf as definition;
