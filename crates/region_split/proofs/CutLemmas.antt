@@ -1,0 +1,199 @@
+-- The edges of a scene that isn't moving are those of its declared lengths, by the states of any kind.
+use Rattle.std.proofs.Common.{ℕ, ℤ, pos, neg_ℤ, Bool, false, ◌≡◌, ◌⊎◌, ◌+◌, ◌<◌, ◌≤◌, ◌+ℤ◌, ◌∙◌, List, length, arith, inl, inr, refl, sym, ap}
+use Rattle.std.specs.Prelude.{Some, slice_get, Contains, ◌↔◌}
+use Rattle.std.proofs.lemmas.Int.{ints}
+use Rattle.std.proofs.lemmas.Option.{get_or_from_slice_get, slice_get_cases, slice_get_within}
+use Rattle.page_model.specs.declared.property.Prop.TheVariants.{Left, Top, Width, Height}
+use Rattle.page_model.specs.declared.property.Value.TheVariants as value
+use Rattle.page_model.specs.declared.scene.Layer.{Layer}
+use Rattle.page_model.specs.declared.scene.Scene.{Scene}
+use Rattle.page_model.specs.declared.setup.Setup.{Setup}
+use Rattle.page_model.specs.Cells.{AreCuts, AreEdges, CutsAt, IsCutBy, IsEdge, IsLooseRunBelow, IsPossible, first, end, inside, height_of, left_of, top_of, width_of}
+use Rattle.page_model.specs.Enclosure.{IsLoose, IsLooseOn, IsLooseStateAt, Kind, Loose, LooseRun, LooseState, own}
+use Rattle.page_model.specs.LayerAt.{Course, course_of, declared, length_of, still}
+use Rattle.page_model.specs.Slot.{Slot, extent, position}
+use Rattle.page_model.specs.ValidScene.{IsBetween, IsExtent, IsPosition, IsValid}
+use Rattle.region_split.specs.declared.sides.Side.{Side}
+use Rattle.region_split.specs.declared.sides.Side.TheVariants.{Columns, Rows}
+use Rattle.region_split.specs.Marks.{AreListed, AreMarks, HasLengths, HaveLengths, IsCutBefore, IsMarked, extent_of, pixels_of, place_of}
+use Rattle.region_split.specs.Cutting.{AreOwnCuts}
+use Rattle.region_split.specs.Moving.{is_moving}
+use Rattle.region_split.proofs.EdgeLemmas.{extent-pixels, loose-still, position-pixels}
+use Rattle.region_split.proofs.StillLemmas.{IsLength, course-still, is_height, is_left, is_top, is_width}
+
+-- a loose edge is at one number
+pub record StaysAt (loose : Loose) (edge : ℤ) : Type 0 where
+  pub low : loose.lo ≡ edge
+  pub high : loose.hi ≡ edge
+
+-- a layer's state begins and ends where the layer is declared, on a side
+pub record StaysThere (side : Side) (along across : LooseState → Loose) (layer : Layer) (state : LooseState) : Type 0 where
+  pub place : StaysAt (along state) (pixels_of (place_of side layer))
+  pub extent : StaysAt (across state) (pixels_of (extent_of side layer))
+
+position-stays : (kind : Kind) (course : Course) (v : ℤ) (loose : Loose) → course ≡ still (value.Length v) → IsPosition v
+    → IsLooseOn kind position length_of course loose → StaysAt loose (pixels_of v)
+position-stays kind course v loose stays within so =
+    let limits = position-pixels v within in
+    let both = loose-still kind position v loose refl limits.at_least limits.at_most (rw stays at so) in
+    record { low = both.0; high = both.1 }
+
+extent-stays : (kind : Kind) (course : Course) (v : ℤ) (loose : Loose) → course ≡ still (value.Length v) → IsExtent v
+    → IsLooseOn kind extent length_of course loose → StaysAt loose (pixels_of v)
+extent-stays kind course v loose stays within so =
+    let limits = extent-pixels v within in
+    let both = loose-still kind extent v loose refl limits.at_least limits.at_most (rw stays at so) in
+    record { low = both.0; high = both.1 }
+
+-- so it is with the states of any kind
+pub columns-stay : (kind : Kind) (scene : Scene) (setup : Setup) (frame number : ℕ) (layer : Layer) (state : LooseState)
+    → is_moving scene ≡ false → slice_get scene.layers number ≡ Some layer → HasLengths layer
+    → IsLooseStateAt kind scene setup frame layer state → StaysThere Columns left_of width_of layer state
+columns-stay kind scene setup frame number layer state calm there has so = record {
+  place = position-stays kind (course_of scene setup frame layer Left) layer.left state.left
+      (course-still scene setup frame number layer Left calm there (is_left refl)) has.left so.is_left;
+  extent = extent-stays kind (course_of scene setup frame layer Width) layer.width state.width
+      (course-still scene setup frame number layer Width calm there (is_width refl)) has.width so.is_width;
+}
+
+pub rows-stay : (kind : Kind) (scene : Scene) (setup : Setup) (frame number : ℕ) (layer : Layer) (state : LooseState)
+    → is_moving scene ≡ false → slice_get scene.layers number ≡ Some layer → HasLengths layer
+    → IsLooseStateAt kind scene setup frame layer state → StaysThere Rows top_of height_of layer state
+rows-stay kind scene setup frame number layer state calm there has so = record {
+  place = position-stays kind (course_of scene setup frame layer Top) layer.top state.top
+      (course-still scene setup frame number layer Top calm there (is_top refl)) has.top so.is_top;
+  extent = extent-stays kind (course_of scene setup frame layer Height) layer.height state.height
+      (course-still scene setup frame number layer Height calm there (is_height refl)) has.height so.is_height;
+}
+
+-- of a run of loose states: each layer stays there in each frame
+unfoldable pub AllStay : Side → (LooseState → Loose) → (LooseState → Loose) → LooseRun → Scene → ℕ → Type 0
+AllStay side along across run scene frames =
+    (frame number : ℕ) (layer : Layer) → frame < frames → slice_get scene.layers number ≡ Some layer
+    → StaysThere side along across layer (run frame number)
+
+possible-still : (loose : Loose) (edge : ℤ) (at : ℕ) → StaysAt loose edge → IsPossible loose at → edge ≡ pos at
+possible-still loose edge at stays is =
+    let low = is.at_least in
+    let high = is.at_most in
+    omega (arith, ints, stays.low, stays.high)
+
+still-possible : (loose : Loose) (edge : ℤ) (at : ℕ) → StaysAt loose edge → edge ≡ pos at → IsPossible loose at
+still-possible loose edge at stays is = record {
+  at_least = omega (arith, ints, stays.low, stays.high);
+  at_most = omega (arith, ints, stays.low, stays.high);
+}
+
+-- a cut by states is one by declared lengths, and the other way round
+cut-declared : (side : Side) (along across : LooseState → Loose) (run : LooseRun) (scene : Scene) (frames at : ℕ)
+    → AllStay side along across run scene frames → IsCutBy along across run scene (λ box. frames) at
+    → IsCutBefore side scene.layers (length scene.layers) at
+unfolding AllStay
+cut-declared side along across run scene frames at stay cut =
+    elim (slice_get_cases scene.layers cut.box).1 [
+      | inl found ↦
+          let layer = found.0 in
+          let there = stay cut.frame cut.box found.0 cut.looked_at found.2 in
+          record {
+            box = cut.box;
+            layer = found.0;
+            is_box = cut.is_box;
+            before = cut.is_layer;
+            is_there = found.2;
+            cuts = elim cut.cuts [
+              | inl begins ↦ inl (possible-still (along (run cut.frame cut.box)) (pixels_of (place_of side found.0)) at there.place begins)
+              | inr ends ↦ inr (omega (arith, ints, there.place.low, there.place.high, there.extent.low, there.extent.high, ends.at_least, ends.at_most))
+            ];
+          }
+      | inr past ↦ let inside = cut.is_layer in absurd (omega (arith, past.0))
+    ]
+
+declared-cut : (side : Side) (along across : LooseState → Loose) (run : LooseRun) (scene : Scene) (frames at : ℕ) → 1 ≤ frames
+    → AllStay side along across run scene frames → IsCutBefore side scene.layers (length scene.layers) at
+    → IsCutBy along across run scene (λ box. frames) at
+unfolding AllStay
+declared-cut side along across run scene frames at some stay cut =
+    let there = stay 0 cut.box cut.layer (omega arith) cut.is_there in
+    record {
+      box = cut.box;
+      frame = 0;
+      is_box = cut.is_box;
+      is_layer = cut.before;
+      looked_at = omega arith;
+      cuts = elim cut.cuts [
+        | inl begins ↦ inl (still-possible (along (run 0 cut.box)) (pixels_of (place_of side cut.layer)) at there.place begins)
+        | inr ends ↦ inr (record {
+          at_least = omega (arith, ints, there.place.low, there.extent.low, ends);
+          at_most = omega (arith, ints, there.place.high, there.extent.high, ends);
+        })
+      ];
+    }
+
+-- edges stay the same where the cuts inside do
+edges-same : (size : ℕ) (P Q : ℕ → Type 0) (edges : List ℕ) → ((at : ℕ) → 0 < at → at < size → P at → Q at)
+    → ((at : ℕ) → 0 < at → at < size → Q at → P at) → AreEdges size P edges → AreEdges size Q edges
+edges-same size P Q edges there back so = record {
+  rising = so.rising;
+  all = λ at. (λ has. onto size P Q at there ((so.all at).0 has), λ edge. (so.all at).1 (onto size Q P at back edge));
+} where
+  onto : (size : ℕ) (P Q : ℕ → Type 0) (at : ℕ) → ((k : ℕ) → 0 < k → k < size → P k → Q k) → IsEdge size P at → IsEdge size Q at
+  onto size P Q at over (first is) = first is
+  onto size P Q at over (end is) = end is
+  onto size P Q at over (inside some less cut) = inside some less (over at some less cut)
+
+-- what is listed are the edges of a run in which all stays
+edges-listed : (side : Side) (along across : LooseState → Loose) (run : LooseRun) (scene : Scene) (frames size : ℕ)
+    (marks : List Bool) (edges : List ℕ) → 1 ≤ frames → AllStay side along across run scene frames
+    → AreMarks side scene.layers size (length scene.layers) marks → AreListed marks size edges
+    → AreEdges size (IsCutBy along across run scene (λ box. frames)) edges
+edges-listed side along across run scene frames size marks edges some stay marked listed =
+    edges-same size (IsMarked marks) (IsCutBy along across run scene (λ box. frames)) edges
+    (λ at above less is. declared-cut side along across run scene frames at some stay (marked.each at is))
+    (λ at above less cut. marked.all at above less (cut-declared side along across run scene frames at stay cut))
+    listed.edges_are
+
+-- each layer of a valid scene has its lengths in their limits
+pub lengths-valid : (scene : Scene) → IsValid scene → HaveLengths scene.layers
+lengths-valid scene valid number layer there =
+    let is = valid.layers number layer (slice_get_within scene.layers number layer there) in
+    let same = get_or_from_slice_get scene.layers number layer layer there in
+    let here = rw same at is in
+    record { left = here.left; top = here.top; width = here.width; height = here.height }
+
+-- all stays in a scene that isn't moving
+pub columns-all : (kind : Kind) (scene : Scene) (setup : Setup) (frames : ℕ) (run : LooseRun) → IsValid scene
+    → is_moving scene ≡ false → IsLooseRunBelow kind scene setup frames run → AllStay Columns left_of width_of run scene frames
+unfolding AllStay
+columns-all kind scene setup frames run valid calm is frame number layer less there =
+    columns-stay kind scene setup frame number layer (run frame number) calm there (lengths-valid scene valid number layer there)
+    (is frame number layer less there)
+
+pub rows-all : (kind : Kind) (scene : Scene) (setup : Setup) (frames : ℕ) (run : LooseRun) → IsValid scene
+    → is_moving scene ≡ false → IsLooseRunBelow kind scene setup frames run → AllStay Rows top_of height_of run scene frames
+unfolding AllStay
+rows-all kind scene setup frames run valid calm is frame number layer less there =
+    rows-stay kind scene setup frame number layer (run frame number) calm there (lengths-valid scene valid number layer there)
+    (is frame number layer less there)
+
+-- the listed edges both ways are those of any kind's states
+pub cuts-listed : (kind : Kind) (scene : Scene) (setup : Setup) (frames : ℕ) (columns rows : List Bool) (xs ys : List ℕ)
+    → IsValid scene → is_moving scene ≡ false → 1 ≤ frames
+    → AreMarks Columns scene.layers setup.width (length scene.layers) columns → AreListed columns setup.width xs
+    → AreMarks Rows scene.layers setup.height (length scene.layers) rows → AreListed rows setup.height ys
+    → (run : LooseRun) → IsLooseRunBelow kind scene setup frames run → AreCuts setup scene (λ box. frames) run xs ys
+cuts-listed kind scene setup frames columns rows xs ys valid calm some marked listed marked_rows listed_rows run is = record {
+  columns = edges-listed Columns left_of width_of run scene frames setup.width columns xs some
+      (columns-all kind scene setup frames run valid calm is) marked listed;
+  rows = edges-listed Rows top_of height_of run scene frames setup.height rows ys some
+      (rows-all kind scene setup frames run valid calm is) marked_rows listed_rows;
+}
+
+-- the same where the layers and the sizes were read by calls
+pub cuts-told : (scene : Scene) (setup : Setup) (frames : ℕ) (layers : List Layer) (width wide height high : ℕ)
+    (columns rows : List Bool) (xs ys : List ℕ) → layers ≡ scene.layers → width ≡ setup.width → wide ≡ setup.width
+    → height ≡ setup.height → high ≡ setup.height → IsValid scene → is_moving scene ≡ false → 1 ≤ frames
+    → AreMarks Columns layers width (length layers) columns → AreListed columns wide xs
+    → AreMarks Rows layers height (length layers) rows → AreListed rows high ys → AreOwnCuts scene setup frames xs ys
+cuts-told scene setup frames layers width wide height high columns rows xs ys same w1 w2 h1 h2 valid calm some marked listed marked_rows listed_rows =
+    cuts-listed own scene setup frames columns rows xs ys valid calm some (rw (same, w1) at marked) (rw w2 at listed)
+    (rw (same, h1) at marked_rows) (rw h2 at listed_rows)

@@ -1,0 +1,5 @@
+pub mod CutLemmas
+pub mod EdgeLemmas
+pub mod ListLemmas
+pub mod MarkLemmas
+pub mod StillLemmas

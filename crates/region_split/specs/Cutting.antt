@@ -1,0 +1,73 @@
+-- The cells of a scene as they are told: the edges of the own kind both ways, and the rectangles between them.
+use Rattle.std.specs.Prelude.{ℕ, ◌≡◌, ◌+◌, ◌-◌, ◌*◌, ◌/◌, ◌%◌, ◌<◌, ◌≤◌, List, length, slice_index, Result, Ok, Err}
+use Rattle.page_model.specs.declared.setup.Setup.{Setup}
+use Rattle.page_model.specs.declared.scene.Scene.{Scene}
+use Rattle.page_model.specs.Cells.{AreCuts, IsLooseRunBelow, cells_between, work_limit}
+use Rattle.page_model.specs.Enclosure.{LooseRun, own}
+use Rattle.page_model.specs.TintOf.{covers_surely}
+use Rattle.region_split.specs.declared.types.Rect.{Rect}
+use Rattle.region_split.specs.declared.types.CutFault.{CutFault}
+use Rattle.region_split.specs.declared.types.CutFault.TheVariants.{Work, NoMemory}
+use Rattle.region_split.specs.Sound.{AreSound}
+
+-- the edges both ways
+pub record Edges : Type 0 where
+  pub xs : List ℕ
+  pub ys : List ℕ
+
+-- so both ways
+pub record AreSoundBoth (xs ys : List ℕ) : Type 0 where
+  pub columns : AreSound xs
+  pub rows : AreSound ys
+
+-- these are the edges of the scene, by the states of the own kind, whatever they are
+abbrev pub AreOwnCuts : Scene → Setup → ℕ → List ℕ → List ℕ → Type 0
+AreOwnCuts scene setup frames xs ys =
+    (run : LooseRun) → IsLooseRunBelow own scene setup frames run → AreCuts setup scene (λ box. frames) run xs ys
+
+-- how many columns and rows of cells there are
+abbrev pub bands : List ℕ → ℕ
+bands edges = length edges - 1
+
+-- the cell of a number: cells stand row by row from the top left
+abbrev pub cell_of : List ℕ → List ℕ → ℕ → Rect
+cell_of xs ys i = record {
+  x = slice_index xs (i % bands xs);
+  y = slice_index ys (i / bands xs);
+  width = slice_index xs (i % bands xs + 1) - slice_index xs (i % bands xs);
+  height = slice_index ys (i / bands xs + 1) - slice_index ys (i / bands xs);
+}
+
+-- a pixel lies in a rectangle
+pub record IsInside (rect : Rect) (column row : ℕ) : Type 0 where
+  pub right_of : rect.x ≤ column
+  pub left_of : column < rect.x + rect.width
+  pub below : rect.y ≤ row
+  pub above : row < rect.y + rect.height
+
+-- each layer covers two pixels of one cell alike in each frame: surely, surely not or maybe
+abbrev pub CoversAlike : Scene → ℕ → List ℕ → List ℕ → LooseRun → Type 0
+CoversAlike scene frames xs ys run =
+    (frame number i column row other_column other_row : ℕ) → frame < frames → number < length scene.layers
+    → i < cells_between xs ys → IsInside (cell_of xs ys i) column row → IsInside (cell_of xs ys i) other_column other_row
+    → covers_surely (run frame number) column row ≡ covers_surely (run frame number) other_column other_row
+
+-- cells times frames are too many, and so many cells are told
+pub record IsWork (scene : Scene) (setup : Setup) (frames cells : ℕ) : Type 0 where
+  pub xs : List ℕ
+  pub ys : List ℕ
+  pub cuts : AreOwnCuts scene setup frames xs ys
+  pub cells_are : cells ≡ cells_between xs ys
+  pub too_many : work_limit < cells * frames
+
+-- the edges are those of the scene, and cells times frames aren't too many
+pub record IsCut (scene : Scene) (setup : Setup) (frames : ℕ) (edges : Edges) : Type 0 where
+  pub cuts : AreOwnCuts scene setup frames edges.xs edges.ys
+  pub sound : AreSoundBoth edges.xs edges.ys
+  pub few_enough : cells_between edges.xs edges.ys * frames ≤ work_limit
+
+-- what cutting a scene answers
+abbrev pub IsCutting : Scene → Setup → ℕ → Result Edges CutFault → Type 0
+IsCutting scene setup frames (Ok edges) = IsCut scene setup frames edges
+IsCutting scene setup frames (Err (Work cells)) = IsWork scene setup frames cells
+IsCutting scene setup frames (Err NoMemory) = Unit {0}
