@@ -9,14 +9,14 @@ use Rattle.page_model.specs.declared.scene.Layer.{Layer}
 use Rattle.page_model.specs.declared.scene.Scene.{Scene}
 use Rattle.page_model.specs.declared.setup.Setup.{Setup}
 use Rattle.page_model.specs.Cells.{AreCuts, AreEdges, CutsAt, IsCutBy, IsEdge, IsLooseRunBelow, IsPossible, first, end, inside, height_of, left_of, top_of, width_of}
-use Rattle.page_model.specs.Enclosure.{IsLoose, IsLooseOn, IsLooseStateAt, Kind, Loose, LooseRun, LooseState, own}
+use Rattle.page_model.specs.Enclosure.{IsLoose, IsLooseOn, IsLooseStateAt, Kind, Loose, LooseRun, LooseState}
 use Rattle.page_model.specs.LayerAt.{Course, course_of, declared, length_of, still}
 use Rattle.page_model.specs.Slot.{Slot, extent, position}
 use Rattle.page_model.specs.ValidScene.{IsBetween, IsExtent, IsPosition, IsValid}
 use Rattle.region_split.specs.declared.sides.Side.{Side}
 use Rattle.region_split.specs.declared.sides.Side.TheVariants.{Columns, Rows}
-use Rattle.region_split.specs.Marks.{AreListed, AreMarks, HasLengths, HaveLengths, IsCutBefore, IsMarked, extent_of, pixels_of, place_of}
-use Rattle.region_split.specs.Cutting.{AreOwnCuts}
+use Rattle.region_split.specs.Marks.{AreDeclared, AreListed, AreMarks, HasLengths, HaveLengths, IsCutBefore, IsMarked, extent_of, pixels_of, place_of}
+use Rattle.region_split.specs.Cutting.{AreDeclaredBoth}
 use Rattle.region_split.specs.Moving.{is_moving}
 use Rattle.region_split.proofs.EdgeLemmas.{extent-pixels, loose-still, position-pixels}
 use Rattle.region_split.proofs.StillLemmas.{IsLength, course-still, is_height, is_left, is_top, is_width}
@@ -141,16 +141,23 @@ edges-same size P Q edges there back so = record {
   onto size P Q at over (end is) = end is
   onto size P Q at over (inside some less cut) = inside some less (over at some less cut)
 
--- what is listed are the edges of a run in which all stays
-edges-listed : (side : Side) (along across : LooseState → Loose) (run : LooseRun) (scene : Scene) (frames size : ℕ)
-    (marks : List Bool) (edges : List ℕ) → 1 ≤ frames → AllStay side along across run scene frames
-    → AreMarks side scene.layers size (length scene.layers) marks → AreListed marks size edges
+-- what is marked and listed are the edges by declared lengths
+pub edges-declared : (side : Side) (layers : List Layer) (size : ℕ) (marks : List Bool) (edges : List ℕ)
+    → AreMarks side layers size (length layers) marks → AreListed marks size edges → AreDeclared side layers size edges
+edges-declared side layers size marks edges marked listed = record {
+  sound = listed.sound;
+  edges_are = edges-same size (IsMarked marks) (IsCutBefore side layers (length layers)) edges (λ at above less is. marked.each at is)
+      (λ at above less cut. marked.all at above less cut) listed.edges_are;
+}
+
+-- these are the edges of a run in which all stays
+edges-run : (side : Side) (along across : LooseState → Loose) (run : LooseRun) (scene : Scene) (frames size : ℕ) (edges : List ℕ)
+    → 1 ≤ frames → AllStay side along across run scene frames → AreDeclared side scene.layers size edges
     → AreEdges size (IsCutBy along across run scene (λ box. frames)) edges
-edges-listed side along across run scene frames size marks edges some stay marked listed =
-    edges-same size (IsMarked marks) (IsCutBy along across run scene (λ box. frames)) edges
-    (λ at above less is. declared-cut side along across run scene frames at some stay (marked.each at is))
-    (λ at above less cut. marked.all at above less (cut-declared side along across run scene frames at stay cut))
-    listed.edges_are
+edges-run side along across run scene frames size edges some stay declared =
+    edges-same size (IsCutBefore side scene.layers (length scene.layers)) (IsCutBy along across run scene (λ box. frames)) edges
+    (λ at above less cut. declared-cut side along across run scene frames at some stay cut)
+    (λ at above less cut. cut-declared side along across run scene frames at stay cut) declared.edges_are
 
 -- each layer of a valid scene has its lengths in their limits
 pub lengths-valid : (scene : Scene) → IsValid scene → HaveLengths scene.layers
@@ -175,25 +182,13 @@ rows-all kind scene setup frames run valid calm is frame number layer less there
     rows-stay kind scene setup frame number layer (run frame number) calm there (lengths-valid scene valid number layer there)
     (is frame number layer less there)
 
--- the listed edges both ways are those of any kind's states
-pub cuts-listed : (kind : Kind) (scene : Scene) (setup : Setup) (frames : ℕ) (columns rows : List Bool) (xs ys : List ℕ)
-    → IsValid scene → is_moving scene ≡ false → 1 ≤ frames
-    → AreMarks Columns scene.layers setup.width (length scene.layers) columns → AreListed columns setup.width xs
-    → AreMarks Rows scene.layers setup.height (length scene.layers) rows → AreListed rows setup.height ys
+-- the declared edges both ways are those of any kind's states
+pub cuts-declared : (kind : Kind) (scene : Scene) (setup : Setup) (frames : ℕ) (xs ys : List ℕ) → IsValid scene
+    → is_moving scene ≡ false → 1 ≤ frames → AreDeclaredBoth scene.layers setup xs ys
     → (run : LooseRun) → IsLooseRunBelow kind scene setup frames run → AreCuts setup scene (λ box. frames) run xs ys
-cuts-listed kind scene setup frames columns rows xs ys valid calm some marked listed marked_rows listed_rows run is = record {
-  columns = edges-listed Columns left_of width_of run scene frames setup.width columns xs some
-      (columns-all kind scene setup frames run valid calm is) marked listed;
-  rows = edges-listed Rows top_of height_of run scene frames setup.height rows ys some
-      (rows-all kind scene setup frames run valid calm is) marked_rows listed_rows;
+cuts-declared kind scene setup frames xs ys valid calm some declared run is = record {
+  columns = edges-run Columns left_of width_of run scene frames setup.width xs some
+      (columns-all kind scene setup frames run valid calm is) declared.columns;
+  rows = edges-run Rows top_of height_of run scene frames setup.height ys some
+      (rows-all kind scene setup frames run valid calm is) declared.rows;
 }
-
--- the same where the layers and the sizes were read by calls
-pub cuts-told : (scene : Scene) (setup : Setup) (frames : ℕ) (layers : List Layer) (width wide height high : ℕ)
-    (columns rows : List Bool) (xs ys : List ℕ) → layers ≡ scene.layers → width ≡ setup.width → wide ≡ setup.width
-    → height ≡ setup.height → high ≡ setup.height → IsValid scene → is_moving scene ≡ false → 1 ≤ frames
-    → AreMarks Columns layers width (length layers) columns → AreListed columns wide xs
-    → AreMarks Rows layers height (length layers) rows → AreListed rows high ys → AreOwnCuts scene setup frames xs ys
-cuts-told scene setup frames layers width wide height high columns rows xs ys same w1 w2 h1 h2 valid calm some marked listed marked_rows listed_rows =
-    cuts-listed own scene setup frames columns rows xs ys valid calm some (rw (same, w1) at marked) (rw w2 at listed)
-    (rw (same, h1) at marked_rows) (rw h2 at listed_rows)

@@ -1,6 +1,7 @@
 -- The cells of a scene as they are told: the edges of the own kind both ways, and the rectangles between them.
 use Rattle.std.specs.Prelude.{ℕ, ◌≡◌, ◌+◌, ◌-◌, ◌*◌, ◌/◌, ◌%◌, ◌<◌, ◌≤◌, List, length, slice_index, Result, Ok, Err}
 use Rattle.page_model.specs.declared.setup.Setup.{Setup}
+use Rattle.page_model.specs.declared.scene.Layer.{Layer}
 use Rattle.page_model.specs.declared.scene.Scene.{Scene}
 use Rattle.page_model.specs.Cells.{AreCuts, IsLooseRunBelow, cells_between, work_limit}
 use Rattle.page_model.specs.Enclosure.{LooseRun, own}
@@ -8,6 +9,8 @@ use Rattle.page_model.specs.TintOf.{covers_surely}
 use Rattle.region_split.specs.declared.types.Rect.{Rect}
 use Rattle.region_split.specs.declared.types.CutFault.{CutFault}
 use Rattle.region_split.specs.declared.types.CutFault.TheVariants.{Work, NoMemory}
+use Rattle.region_split.specs.declared.sides.Side.TheVariants.{Columns, Rows}
+use Rattle.region_split.specs.Marks.{AreDeclared}
 use Rattle.region_split.specs.Sound.{AreSound}
 
 -- the edges both ways
@@ -60,10 +63,11 @@ pub record IsWork (scene : Scene) (setup : Setup) (frames cells : ℕ) : Type 0 
   pub cells_are : cells ≡ cells_between xs ys
   pub too_many : work_limit < cells * frames
 
--- the edges are those of the scene, and cells times frames aren't too many
+-- the edges are those of the scene, each cell is covered alike, and cells times frames aren't too many
 pub record IsCut (scene : Scene) (setup : Setup) (frames : ℕ) (edges : Edges) : Type 0 where
   pub cuts : AreOwnCuts scene setup frames edges.xs edges.ys
   pub sound : AreSoundBoth edges.xs edges.ys
+  pub alike : (run : LooseRun) → IsLooseRunBelow own scene setup frames run → CoversAlike scene frames edges.xs edges.ys run
   pub few_enough : cells_between edges.xs edges.ys * frames ≤ work_limit
 
 -- what cutting a scene answers
@@ -71,3 +75,24 @@ abbrev pub IsCutting : Scene → Setup → ℕ → Result Edges CutFault → Typ
 IsCutting scene setup frames (Ok edges) = IsCut scene setup frames edges
 IsCutting scene setup frames (Err (Work cells)) = IsWork scene setup frames cells
 IsCutting scene setup frames (Err NoMemory) = Unit {0}
+
+-- the same by the declared lengths of layers alone
+pub record AreDeclaredBoth (layers : List Layer) (setup : Setup) (xs ys : List ℕ) : Type 0 where
+  pub columns : AreDeclared Columns layers setup.width xs
+  pub rows : AreDeclared Rows layers setup.height ys
+
+pub record IsDeclaredWork (layers : List Layer) (setup : Setup) (frames cells : ℕ) : Type 0 where
+  pub xs : List ℕ
+  pub ys : List ℕ
+  pub declared : AreDeclaredBoth layers setup xs ys
+  pub cells_are : cells ≡ cells_between xs ys
+  pub too_many : work_limit < cells * frames
+
+pub record IsDeclaredCut (layers : List Layer) (setup : Setup) (frames : ℕ) (edges : Edges) : Type 0 where
+  pub declared : AreDeclaredBoth layers setup edges.xs edges.ys
+  pub few_enough : cells_between edges.xs edges.ys * frames ≤ work_limit
+
+abbrev pub IsDeclaredCutting : List Layer → Setup → ℕ → Result Edges CutFault → Type 0
+IsDeclaredCutting layers setup frames (Ok edges) = IsDeclaredCut layers setup frames edges
+IsDeclaredCutting layers setup frames (Err (Work cells)) = IsDeclaredWork layers setup frames cells
+IsDeclaredCutting layers setup frames (Err NoMemory) = Unit {0}

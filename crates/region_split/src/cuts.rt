@@ -2,15 +2,15 @@
 ghost use Rattle.std.specs.Prelude.{◌≡◌, ◌+◌, ◌-◌, ◌<◌, ◌≤◌, false, length, slice_index};
 ghost use Rattle.page_model.specs.Cells.{cells_between};
 ghost use Rattle.page_model.specs.ValidScene.{IsValid};
-ghost use Rattle.region_split.specs.Cutting.{IsCutting, cell_of};
+ghost use Rattle.region_split.specs.Cutting.{IsCutting, IsDeclaredCutting, cell_of};
+ghost use Rattle.region_split.specs.Marks.{HaveLengths};
 ghost use Rattle.region_split.specs.Moving.{is_moving};
 ghost use Rattle.region_split.specs.Sound.{AreSound};
 
-use crate::listing::listed;
-use crate::marks::marks_of;
+use crate::listing::edges_of;
 use crate::sides::Side;
 use crate::types::{CutFault, Rect};
-use page_model::{Scene, Setup};
+use page_model::{Layer, Scene, Setup};
 use std::alloc::Global;
 use std::marker::Model;
 
@@ -56,16 +56,7 @@ impl Cuts {
         requires limit { frames ≤ 100241 }
         ensures { IsCutting scene.now setup.now frames result }
     {
-        let layers = scene.layers.as_slice();
-        let columns = marks_of(layers, Side::Columns, setup.width());
-        let xs = listed(alloc, &columns, setup.width())?;
-        let rows = marks_of(layers, Side::Rows, setup.height());
-        let ys = listed(alloc, &rows, setup.height())?;
-        let cells = cells_of(&xs, &ys);
-        if u64::from(cells) * u64::from(frames) > MOST_WORK {
-            return Err(CutFault::Work { cells });
-        }
-        Ok(Cuts { xs, ys })
+        cut_layers(alloc, scene.layers.as_slice(), setup, frames)
     }
 
     /// How many cells there are.
@@ -106,6 +97,26 @@ impl Cuts {
     {
         self.ys.as_slice()
     }
+}
+
+/// The edges of layers that neither move nor grow.
+pub(crate) fn cut_layers(
+    alloc: Global,
+    layers: &[Layer],
+    setup: &Setup,
+    frames: u32,
+) -> Result<Cuts, CutFault>
+    requires lengths { HaveLengths layers.now }
+    requires limit { frames ≤ 100241 }
+    ensures { IsDeclaredCutting layers.now setup.now frames result }
+{
+    let xs = edges_of(alloc, layers, Side::Columns, setup.width())?;
+    let ys = edges_of(alloc, layers, Side::Rows, setup.height())?;
+    let cells = cells_of(&xs, &ys);
+    if u64::from(cells) * u64::from(frames) > MOST_WORK {
+        return Err(CutFault::Work { cells });
+    }
+    Ok(Cuts { xs, ys })
 }
 
 /// How many cells lie between edges.
