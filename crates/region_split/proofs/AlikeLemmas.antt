@@ -62,6 +62,7 @@ lt-alike t a b one other =
   where
     lt-yes : (x y : ℤ) → x <ℤ y → int_lt x y ≡ true
     lt-yes x y h = let e : true ≡ int_lt x y = omega (arith, ints) in sym e
+
     lt-no : (x y : ℤ) → y ≤ℤ x → int_lt x y ≡ false
     lt-no x y h = let e : false ≡ int_lt x y = omega (arith, ints) in sym e
 
@@ -78,6 +79,7 @@ le-alike t a b one other =
   where
     le-yes : (x y : ℤ) → x ≤ℤ y → int_le x y ≡ true
     le-yes x y h = let e : true ≡ int_le x y = omega (arith, ints) in sym e
+
     le-no : (x y : ℤ) → y <ℤ x → int_le x y ≡ false
     le-no x y h = let e : false ≡ int_le x y = omega (arith, ints) in sym e
 
@@ -99,12 +101,15 @@ pub spans-alike : (size : ℕ) (Cut : ℕ → Type 0) (edges : List ℕ) (from e
     → CutsInside size Cut from.hi → CutsInside size Cut (from.lo +ℤ extent.lo) → CutsInside size Cut (from.hi +ℤ extent.hi)
     → spans_surely from extent a ≡ spans_surely from extent b
 spans-alike size Cut edges from extent i a b are limit both c1 c2 c3 c4 =
-    rw (lt-alike from.lo a b (one from.lo c1) (other from.lo c1),
+    rw (
+      lt-alike from.lo a b (one from.lo c1) (other from.lo c1),
       le-alike (from.hi +ℤ extent.hi) a b (one (from.hi +ℤ extent.hi) c4) (other (from.hi +ℤ extent.hi) c4),
       le-alike from.hi a b (one from.hi c2) (other from.hi c2),
-      lt-alike (from.lo +ℤ extent.lo) a b (one (from.lo +ℤ extent.lo) c3) (other (from.lo +ℤ extent.lo) c3)) refl
+      lt-alike (from.lo +ℤ extent.lo) a b (one (from.lo +ℤ extent.lo) c3) (other (from.lo +ℤ extent.lo) c3),
+    ) refl
   where
     one : (t : ℤ) → CutsInside size Cut t → pos a <ℤ t → t ≤ℤ pos b → ⊥
     one t cuts = not-between size Cut edges t i a b are cuts both.within limit both.low_one both.high_other
+
     other : (t : ℤ) → CutsInside size Cut t → pos b <ℤ t → t ≤ℤ pos a → ⊥
     other t cuts = not-between size Cut edges t i b a are cuts both.within limit both.low_other both.high_one

@@ -39,14 +39,14 @@ greatest-still slot v x unit above below so =
     let round = rounded-pixels v in
     by_lt_z x (pixels_of v)
     (λ less.
-      let inside : x <ℤ slot.greatest = omega (arith, ints) in
-      let more : (pos 100 *ℤ (x +ℤ pos 1)) ≤ℤ (v +ℤ pos 50) = omega (arith, ints, round.low) in
-      absurd (so.greatest inside (low-reached slot v (x +ℤ pos 1) unit more)))
+    let inside : x <ℤ slot.greatest = omega (arith, ints) in
+    let more : (pos 100 *ℤ (x +ℤ pos 1)) ≤ℤ (v +ℤ pos 50) = omega (arith, ints, round.low) in
+    absurd (so.greatest inside (low-reached slot v (x +ℤ pos 1) unit more)))
     (λ least. by_lt_z (pixels_of v) x
     (λ less.
-      let over : slot.least <ℤ x = omega (arith, ints) in
-      let low = reached-low slot v x unit (so.reached over) in
-      absurd (omega (arith, ints, low, round.high)))
+    let over : slot.least <ℤ x = omega (arith, ints) in
+    let low = reached-low slot v x unit (so.reached over) in
+    absurd (omega (arith, ints, low, round.high)))
     (λ other. omega (arith, ints)))
 
 -- both ends of a loose edge that stays

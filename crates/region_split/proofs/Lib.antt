@@ -1,4 +1,5 @@
 pub mod AlikeLemmas
+pub mod BareLemmas
 pub mod CoverLemmas
 pub mod CutLemmas
 pub mod CuttingLemmas
