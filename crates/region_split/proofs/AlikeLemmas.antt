@@ -1,11 +1,11 @@
 -- Two pixels of one cell are covered alike: between two neighbouring edges lies no end of a box.
-use Rattle.std.proofs.Common.{ℕ, zero, suc, ℤ, pos, negsuc, Bool, true, false, ◌≡◌, ◌⊎◌, ◌+◌, ◌-◌, ◌*◌, ◌/◌, ◌%◌, ◌<◌, ◌≤◌, ◌+ℤ◌, ◌≤ℤ◌, ◌<ℤ◌, ◌∙◌, List, length, get_or, int_le, int_lt, arith, inl, inr, refl, sym, ap}
-use Rattle.std.specs.Prelude.{Some, slice_get, Contains}
+use Rattle.std.proofs.Common.{ℕ, zero, suc, ℤ, pos, negsuc, true, false, ◌≡◌, ◌+◌, ◌-◌, ◌<◌, ◌≤◌, ◌+ℤ◌, ◌≤ℤ◌, ◌<ℤ◌, ◌∙◌, List, length, get_or, int_le, int_lt, arith, inl, inr, refl, sym}
+use Rattle.std.specs.Prelude.{Contains}
 use Rattle.std.specs.List.Sorted.{IsStrictlyIncreasing}
 use Rattle.std.proofs.lemmas.Bool.{cases_lt}
 use Rattle.std.proofs.lemmas.Int.{ints, by_lt_z}
 use Rattle.std.proofs.lemmas.List.{get_or_default}
-use Rattle.page_model.specs.Cells.{AreEdges, IsEdge, inside}
+use Rattle.page_model.specs.Cells.{AreEdges, inside}
 use Rattle.page_model.specs.Enclosure.{Loose}
 use Rattle.page_model.specs.TintOf.{spans_surely}
 

@@ -1,5 +1,5 @@
 -- A page with nothing but a body is valid and isn't moving.
-use Rattle.std.proofs.Common.{ℕ, zero, suc, pos, true, false, ◌≡◌, ◌<◌, ◌≤◌, List, [], ◌∷◌, length, None, Some, arith, refl, subst}
+use Rattle.std.proofs.Common.{ℕ, zero, suc, pos, true, ◌≡◌, ◌≤◌, [], ◌∷◌, None, Some, arith, refl, subst}
 use Rattle.std.specs.Prelude.{slice_get, IsSome}
 use Rattle.std.proofs.lemmas.Int.{ints}
 use Rattle.std.proofs.lemmas.List.Elements.{All-cons, All-nil}
@@ -7,7 +7,6 @@ use Rattle.page_model.specs.declared.animation.Anim.{Anim}
 use Rattle.page_model.specs.declared.keyframe.KeyframeSet.{KeyframeSet}
 use Rattle.page_model.specs.declared.scene.Held.{Held}
 use Rattle.page_model.specs.declared.scene.Layer.{Layer}
-use Rattle.page_model.specs.declared.scene.Scene.{Scene}
 use Rattle.page_model.specs.ValidScene.{IsAnimation, IsBody, IsLayer, IsSetInUse, IsValid, NamesBackgroundAlone}
 
 abbrev pub bare : Held → Layer

@@ -1,6 +1,5 @@
 -- Each layer of a scene that isn't moving covers the pixels of a cell alike.
-use Rattle.std.proofs.Common.{ℕ, zero, suc, ℤ, pos, Bool, false, ◌≡◌, ◌⊎◌, ◌+◌, ◌-◌, ◌*◌, ◌/◌, ◌%◌, ◌<◌, ◌≤◌, ◌+ℤ◌, ◌∙◌, List, length, get_or, arith, inl, inr, refl, sym, ap}
-use Rattle.std.specs.Prelude.{Some, slice_get, Contains}
+use Rattle.std.proofs.Common.{ℕ, zero, suc, ℤ, pos, false, ◌≡◌, ◌⊎◌, ◌+◌, ◌*◌, ◌/◌, ◌%◌, ◌<◌, ◌≤◌, ◌+ℤ◌, List, length, get_or, arith, inl, inr, refl}
 use Rattle.std.proofs.lemmas.Bool.{cases_lt}
 use Rattle.std.proofs.lemmas.Int.{ints}
 use Rattle.std.proofs.lemmas.List.Elements.{Contains-get_or}
@@ -9,9 +8,9 @@ use Rattle.std.proofs.Math.Nat.{mul-le-mul_left, mul-div-le}
 use Rattle.page_model.specs.declared.scene.Layer.{Layer}
 use Rattle.page_model.specs.declared.scene.Scene.{Scene}
 use Rattle.page_model.specs.declared.setup.Setup.{Setup}
-use Rattle.page_model.specs.Cells.{AreCuts, AreEdges, IsCutBy, IsEdge, IsLooseRunBelow, IsPossible, cells_between, first, end, inside, height_of, left_of, top_of, width_of}
+use Rattle.page_model.specs.Cells.{AreCuts, AreEdges, IsCutBy, IsEdge, IsLooseRunBelow, cells_between, first, end, inside, height_of, left_of, top_of, width_of}
 use Rattle.page_model.specs.Enclosure.{Kind, Loose, LooseRun, LooseState}
-use Rattle.page_model.specs.TintOf.{covers_surely, spans_surely}
+use Rattle.page_model.specs.TintOf.{spans_surely}
 use Rattle.page_model.specs.ValidScene.{IsValid}
 use Rattle.region_split.specs.declared.sides.Side.{Side}
 use Rattle.region_split.specs.declared.sides.Side.TheVariants.{Columns, Rows}
@@ -20,7 +19,7 @@ use Rattle.region_split.specs.Marks.{extent_of, pixels_of, place_of}
 use Rattle.region_split.specs.Moving.{is_moving}
 use Rattle.region_split.specs.Sound.{AreSound}
 use Rattle.region_split.proofs.AlikeLemmas.{AreTogether, CutsInside, spans-alike}
-use Rattle.region_split.proofs.CutLemmas.{AllStay, StaysAt, StaysThere, columns-all, rows-all}
+use Rattle.region_split.proofs.CutLemmas.{AllStay, StaysThere, columns-all, rows-all}
 
 -- no edge is behind the end
 edge-limit : (size : ℕ) (Cut : ℕ → Type 0) (edges : List ℕ) (i : ℕ) → AreEdges size Cut edges → i < length edges

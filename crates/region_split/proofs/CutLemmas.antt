@@ -1,6 +1,6 @@
 -- The edges of a scene that isn't moving are those of its declared lengths, by the states of any kind.
-use Rattle.std.proofs.Common.{ℕ, ℤ, pos, neg_ℤ, Bool, false, ◌≡◌, ◌⊎◌, ◌+◌, ◌<◌, ◌≤◌, ◌+ℤ◌, ◌∙◌, List, length, arith, inl, inr, refl, sym, ap}
-use Rattle.std.specs.Prelude.{Some, slice_get, Contains, ◌↔◌}
+use Rattle.std.proofs.Common.{ℕ, ℤ, pos, Bool, false, ◌≡◌, ◌<◌, ◌≤◌, List, length, arith, inl, inr, refl}
+use Rattle.std.specs.Prelude.{Some, slice_get}
 use Rattle.std.proofs.lemmas.Int.{ints}
 use Rattle.std.proofs.lemmas.Option.{get_or_from_slice_get, slice_get_cases, slice_get_within}
 use Rattle.page_model.specs.declared.property.Prop.TheVariants.{Left, Top, Width, Height}
@@ -8,18 +8,18 @@ use Rattle.page_model.specs.declared.property.Value.TheVariants as value
 use Rattle.page_model.specs.declared.scene.Layer.{Layer}
 use Rattle.page_model.specs.declared.scene.Scene.{Scene}
 use Rattle.page_model.specs.declared.setup.Setup.{Setup}
-use Rattle.page_model.specs.Cells.{AreCuts, AreEdges, CutsAt, IsCutBy, IsEdge, IsLooseRunBelow, IsPossible, first, end, inside, height_of, left_of, top_of, width_of}
-use Rattle.page_model.specs.Enclosure.{IsLoose, IsLooseOn, IsLooseStateAt, Kind, Loose, LooseRun, LooseState}
+use Rattle.page_model.specs.Cells.{AreCuts, AreEdges, IsCutBy, IsEdge, IsLooseRunBelow, IsPossible, first, end, inside, height_of, left_of, top_of, width_of}
+use Rattle.page_model.specs.Enclosure.{IsLooseOn, IsLooseStateAt, Kind, Loose, LooseRun, LooseState}
 use Rattle.page_model.specs.LayerAt.{Course, course_of, declared, length_of, still}
-use Rattle.page_model.specs.Slot.{Slot, extent, position}
-use Rattle.page_model.specs.ValidScene.{IsBetween, IsExtent, IsPosition, IsValid}
+use Rattle.page_model.specs.Slot.{extent, position}
+use Rattle.page_model.specs.ValidScene.{IsExtent, IsPosition, IsValid}
 use Rattle.region_split.specs.declared.sides.Side.{Side}
 use Rattle.region_split.specs.declared.sides.Side.TheVariants.{Columns, Rows}
 use Rattle.region_split.specs.Marks.{AreDeclared, AreListed, AreMarks, HasLengths, HaveLengths, IsCutBefore, IsMarked, extent_of, pixels_of, place_of}
 use Rattle.region_split.specs.Cutting.{AreDeclaredBoth}
 use Rattle.region_split.specs.Moving.{is_moving}
 use Rattle.region_split.proofs.EdgeLemmas.{extent-pixels, loose-still, position-pixels}
-use Rattle.region_split.proofs.StillLemmas.{IsLength, course-still, is_height, is_left, is_top, is_width}
+use Rattle.region_split.proofs.StillLemmas.{course-still, is_height, is_left, is_top, is_width}
 
 -- a loose edge is at one number
 pub record StaysAt (loose : Loose) (edge : ℤ) : Type 0 where

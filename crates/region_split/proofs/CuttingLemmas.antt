@@ -1,5 +1,5 @@
 -- What is cut by declared lengths is what is cut by the states of the own kind.
-use Rattle.std.proofs.Common.{ℕ, Bool, false, ◌≡◌, ◌≤◌, List, Result, Ok, Err}
+use Rattle.std.proofs.Common.{ℕ, false, ◌≡◌, ◌≤◌, List, Result, Ok, Err}
 use Rattle.page_model.specs.declared.scene.Layer.{Layer}
 use Rattle.page_model.specs.declared.scene.Scene.{Scene}
 use Rattle.page_model.specs.declared.setup.Setup.{Setup}
@@ -7,7 +7,7 @@ use Rattle.page_model.specs.Enclosure.{own}
 use Rattle.page_model.specs.ValidScene.{IsValid}
 use Rattle.region_split.specs.declared.types.CutFault.{CutFault}
 use Rattle.region_split.specs.declared.types.CutFault.TheVariants.{Work, NoMemory}
-use Rattle.region_split.specs.Cutting.{AreDeclaredBoth, AreSoundBoth, Edges, IsCut, IsCutting, IsDeclaredCut, IsDeclaredCutting, IsDeclaredWork, IsWork}
+use Rattle.region_split.specs.Cutting.{AreSoundBoth, Edges, IsCutting, IsDeclaredCutting}
 use Rattle.region_split.specs.Moving.{is_moving}
 use Rattle.region_split.proofs.CoverLemmas.{covers-alike}
 use Rattle.region_split.proofs.CutLemmas.{cuts-declared}

@@ -1,12 +1,12 @@
 -- Where a loose edge is that stays at one value: at that value in whole pixels, at both ends.
-use Rattle.std.proofs.Common.{ℕ, ℤ, pos, negsuc, neg_ℤ, ◌≡◌, ◌+◌, ◌*◌, ◌/◌, ◌<◌, ◌≤◌, ◌+ℤ◌, ◌-ℤ◌, ◌*ℤ◌, ◌≤ℤ◌, ◌<ℤ◌, arith, refl}
+use Rattle.std.proofs.Common.{ℤ, pos, negsuc, neg_ℤ, ◌≡◌, ◌+ℤ◌, ◌*ℤ◌, ◌≤ℤ◌, ◌<ℤ◌, arith, refl}
 use Rattle.std.proofs.lemmas.Int.{ints, by_lt_z}
 use Rattle.std.specs.Int.{int_div_euclid}
 use Rattle.page_model.specs.Curve.{FractionReaches}
 use Rattle.page_model.specs.Enclosure.{Kind, IsLoose, Loose}
 use Rattle.page_model.specs.declared.easing.Easing.TheVariants.{Linear}
 use Rattle.page_model.specs.Fraction.{zero_of_one}
-use Rattle.page_model.specs.Slot.{IsGreatestIn, Slot, extent, position, twice_the_way, twice_to_cover}
+use Rattle.page_model.specs.Slot.{IsGreatestIn, Slot, twice_the_way, twice_to_cover}
 use Rattle.page_model.specs.ValidScene.{IsBetween, IsExtent, IsPosition}
 use Rattle.region_split.specs.Marks.{pixels_of}
 

@@ -1,19 +1,19 @@
 -- In a scene that isn't moving each box stays where it is declared.
-use Rattle.std.proofs.Common.{ℕ, zero, suc, Bool, true, false, ◌≡◌, ◌+◌, ◌<◌, ◌≤◌, ◌∙◌, Option, Some, None, List, [], ◌∷◌, length, get_or, ap, arith, inl, inr, refl, sym}
+use Rattle.std.proofs.Common.{ℕ, zero, suc, Bool, true, false, ◌≡◌, Option, Some, None, List, [], ◌∷◌, length, inl, inr, refl}
 use Rattle.std.specs.Prelude.{slice_get, filter_map, ◌||◌, option_and_then}
 use Rattle.std.specs.List.{list_any}
 use Rattle.std.proofs.lemmas.Bool.{cases_Bool}
 use Rattle.page_model.specs.declared.animation.Anim.{Anim}
 use Rattle.page_model.specs.declared.keyframe.KeyframeSet.{KeyframeSet}
 use Rattle.page_model.specs.declared.property.Prop.{Prop}
-use Rattle.page_model.specs.declared.property.Prop.TheVariants.{Background, Opacity, Visibility, Left, Top, Width, Height}
+use Rattle.page_model.specs.declared.property.Prop.TheVariants.{Left, Top, Width, Height}
 use Rattle.page_model.specs.declared.property.Value.{Value}
 use Rattle.page_model.specs.declared.scene.Layer.{Layer}
 use Rattle.page_model.specs.declared.scene.Scene.{Scene}
 use Rattle.page_model.specs.declared.setup.Setup.{Setup}
 use Rattle.page_model.specs.Fraction.{Fraction}
-use Rattle.page_model.specs.Keyframes.{Interval, interval_of, names}
-use Rattle.page_model.specs.LayerAt.{Course, course_of, declared, interval_at, is_held, still}
+use Rattle.page_model.specs.Keyframes.{interval_of, names}
+use Rattle.page_model.specs.LayerAt.{course_of, declared, interval_at, is_held, still}
 use Rattle.page_model.specs.Progress.{progress_of}
 use Rattle.region_split.specs.Moving.{is_moving, moves, names_edge}
 

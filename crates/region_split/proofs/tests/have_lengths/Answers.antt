@@ -1,9 +1,7 @@
-use Rattle.std.proofs.Common.{◌≡◌, ◌<◌, Some, length, arith, inl, inr, refl}
+use Rattle.std.proofs.Common.{◌≡◌, Some, length, arith, inl, inr, refl}
 use Rattle.std.specs.Prelude.{slice_get}
 use Rattle.std.proofs.lemmas.Bool.{cases_lt}
 use Rattle.std.proofs.lemmas.Option.{slice_get_read, slice_get_within}
-use Rattle.page_model.specs.declared.scene.Layer.{Layer}
-use Rattle.region_split.specs.Marks.{HasLengths}
 use Rattle.region_split.proofs.tests.have_lengths.Goals as goal
 
 pub loop-layer-preserved : goal.loop-layer-preserved
