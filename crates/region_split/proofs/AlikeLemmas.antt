@@ -8,20 +8,7 @@ use Rattle.std.proofs.lemmas.List.{get_or_default}
 use Rattle.page_model.specs.Cells.{AreEdges, inside}
 use Rattle.page_model.specs.Enclosure.{Loose}
 use Rattle.page_model.specs.TintOf.{spans_surely}
-
--- a later number of a rising list is no smaller
-rising-le : (edges : List ℕ) (i n : ℕ) → IsStrictlyIncreasing edges → i + n < length edges → get_or edges i 0 ≤ get_or edges (i + n) 0
-rising-le edges i zero rising within = let same : i + 0 ≡ i = omega arith in rw same (omega arith)
-rising-le edges i (suc n) rising within =
-    let next : i + suc n ≡ i + n + 1 = omega arith in
-    let before = rising-le edges i n rising (omega arith) in
-    let step = rising (i + n) (omega arith) in
-    rw next (omega arith)
-
-rising-between : (edges : List ℕ) (i j : ℕ) → IsStrictlyIncreasing edges → i ≤ j → j < length edges → get_or edges i 0 ≤ get_or edges j 0
-rising-between edges i j rising order within =
-    let sum : i + (j - i) ≡ j = omega arith in
-    rw sum at (rising-le edges i (j - i) rising (omega arith))
+use Rattle.region_split.proofs.RisingLemmas.{rising-between}
 
 -- no edge lies between two neighbouring ones
 none-between : (edges : List ℕ) (i k at : ℕ) → IsStrictlyIncreasing edges → i + 1 < length edges → k < length edges

@@ -1,9 +1,9 @@
 -- What is cut by declared lengths is what is cut by the states of the own kind.
-use Rattle.std.proofs.Common.{ℕ, false, ◌≡◌, ◌≤◌, List, Result, Ok, Err}
+use Rattle.std.proofs.Common.{arith, ℕ, false, ◌≡◌, ◌≤◌, List, Result, Ok, Err}
 use Rattle.page_model.specs.declared.scene.Layer.{Layer}
 use Rattle.page_model.specs.declared.scene.Scene.{Scene}
 use Rattle.page_model.specs.declared.setup.Setup.{Setup}
-use Rattle.page_model.specs.Enclosure.{own}
+use Rattle.page_model.specs.Enclosure.{own, wide}
 use Rattle.page_model.specs.ValidScene.{IsValid}
 use Rattle.region_split.specs.declared.types.CutFault.{CutFault}
 use Rattle.region_split.specs.declared.types.CutFault.TheVariants.{Work, NoMemory}
@@ -11,6 +11,7 @@ use Rattle.region_split.specs.Cutting.{AreSoundBoth, Edges, IsCutting, IsDeclare
 use Rattle.region_split.specs.Moving.{is_moving}
 use Rattle.region_split.proofs.CoverLemmas.{covers-alike}
 use Rattle.region_split.proofs.CutLemmas.{cuts-declared}
+use Rattle.region_split.proofs.WideLemmas.{cells-same}
 
 -- so it is with each answer
 pub cutting-declared : (scene : Scene) (setup : Setup) (frames : ℕ) (told : Result Edges CutFault) → IsValid scene
@@ -23,6 +24,8 @@ cutting-declared scene setup frames (Ok edges) valid calm some cut =
       sound = sound;
       alike = λ run is. covers-alike own scene setup frames edges.xs edges.ys run valid calm sound is
           (cuts-declared own scene setup frames edges.xs edges.ys valid calm some declared run is);
+      at_most_wide = λ run xs ys is cuts.
+          let same = cells-same wide scene setup frames edges.xs edges.ys valid calm some declared run xs ys is cuts in omega arith;
       few_enough = cut.few_enough;
     }
 cutting-declared scene setup frames (Err (Work cells)) valid calm some work = record {
@@ -30,6 +33,10 @@ cutting-declared scene setup frames (Err (Work cells)) valid calm some work = re
   ys = work.ys;
   cuts = cuts-declared own scene setup frames work.xs work.ys valid calm some work.declared;
   cells_are = work.cells_are;
+  at_most_wide = λ run xs ys is cuts.
+      let same = cells-same wide scene setup frames work.xs work.ys valid calm some work.declared run xs ys is cuts in
+      let told = work.cells_are in
+      omega arith;
   too_many = work.too_many;
 }
 cutting-declared scene setup frames (Err NoMemory) valid calm some none = tt

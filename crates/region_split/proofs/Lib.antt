@@ -6,4 +6,6 @@ pub mod CuttingLemmas
 pub mod EdgeLemmas
 pub mod ListLemmas
 pub mod MarkLemmas
+pub mod RisingLemmas
 pub mod StillLemmas
+pub mod WideLemmas

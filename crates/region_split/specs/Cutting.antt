@@ -4,7 +4,7 @@ use Rattle.page_model.specs.declared.setup.Setup.{Setup}
 use Rattle.page_model.specs.declared.scene.Layer.{Layer}
 use Rattle.page_model.specs.declared.scene.Scene.{Scene}
 use Rattle.page_model.specs.Cells.{AreCuts, IsLooseRunBelow, cells_between, work_limit}
-use Rattle.page_model.specs.Enclosure.{LooseRun, own}
+use Rattle.page_model.specs.Enclosure.{LooseRun, own, wide}
 use Rattle.page_model.specs.TintOf.{covers_surely}
 use Rattle.region_split.specs.declared.types.Rect.{Rect}
 use Rattle.region_split.specs.declared.types.CutFault.{CutFault}
@@ -55,12 +55,19 @@ CoversAlike scene frames xs ys run =
     → i < cells_between xs ys → IsInside (cell_of xs ys i) column row → IsInside (cell_of xs ys i) other_column other_row
     → covers_surely (run frame number) column row ≡ covers_surely (run frame number) other_column other_row
 
+-- so many cells are at most those that the states of the wide kind give, whatever they are
+abbrev pub AtMostWide : Scene → Setup → ℕ → ℕ → Type 0
+AtMostWide scene setup frames cells =
+    (run : LooseRun) (xs ys : List ℕ) → IsLooseRunBelow wide scene setup frames run
+    → AreCuts setup scene (λ box. frames) run xs ys → cells ≤ cells_between xs ys
+
 -- cells times frames are too many, and so many cells are told
 pub record IsWork (scene : Scene) (setup : Setup) (frames cells : ℕ) : Type 0 where
   pub xs : List ℕ
   pub ys : List ℕ
   pub cuts : AreOwnCuts scene setup frames xs ys
   pub cells_are : cells ≡ cells_between xs ys
+  pub at_most_wide : AtMostWide scene setup frames cells
   pub too_many : work_limit < cells * frames
 
 -- the edges are those of the scene, each cell is covered alike, and cells times frames aren't too many
@@ -68,6 +75,7 @@ pub record IsCut (scene : Scene) (setup : Setup) (frames : ℕ) (edges : Edges) 
   pub cuts : AreOwnCuts scene setup frames edges.xs edges.ys
   pub sound : AreSoundBoth edges.xs edges.ys
   pub alike : (run : LooseRun) → IsLooseRunBelow own scene setup frames run → CoversAlike scene frames edges.xs edges.ys run
+  pub at_most_wide : AtMostWide scene setup frames (cells_between edges.xs edges.ys)
   pub few_enough : cells_between edges.xs edges.ys * frames ≤ work_limit
 
 -- what cutting a scene answers
