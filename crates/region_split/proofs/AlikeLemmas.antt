@@ -1,5 +1,5 @@
 -- Two pixels of one cell are covered alike: between two neighbouring edges lies no end of a box.
-use Rattle.std.proofs.Common.{ℕ, zero, suc, ℤ, pos, negsuc, true, false, ◌≡◌, ◌+◌, ◌-◌, ◌<◌, ◌≤◌, ◌+ℤ◌, ◌≤ℤ◌, ◌<ℤ◌, ◌∙◌, List, length, get_or, int_le, int_lt, arith, inl, inr, refl, sym}
+use Rattle.std.proofs.Common.{ℕ, ℤ, pos, negsuc, true, false, ◌≡◌, ◌+◌, ◌<◌, ◌≤◌, ◌+ℤ◌, ◌≤ℤ◌, ◌<ℤ◌, ◌∙◌, List, length, get_or, int_le, int_lt, arith, inl, inr, refl, sym}
 use Rattle.std.specs.Prelude.{Contains}
 use Rattle.std.specs.List.Sorted.{IsStrictlyIncreasing}
 use Rattle.std.proofs.lemmas.Bool.{cases_lt}

@@ -1,6 +1,5 @@
 -- The cells of a scene that isn't moving are as many by the states of each kind.
-use Rattle.std.proofs.Common.{ℕ, Bool, false, ◌≡◌, ◌≤◌, List, arith}
-use Rattle.std.specs.Prelude.{Contains}
+use Rattle.std.proofs.Common.{ℕ, false, ◌≡◌, ◌≤◌, List}
 use Rattle.page_model.specs.declared.scene.Scene.{Scene}
 use Rattle.page_model.specs.declared.setup.Setup.{Setup}
 use Rattle.page_model.specs.Cells.{AreCuts, AreEdges, IsLooseRunBelow, cells_between}
