@@ -1,0 +1,5 @@
+pub mod Multiples
+pub mod Needed
+pub mod Periods
+pub mod Repeats
+pub mod Settling
