@@ -16,5 +16,7 @@ mod multiples;
 mod periods;
 mod repeats;
 mod settling;
+#[cfg(test)]
+mod tests;
 
 pub use frames::{Horizon, needed};

@@ -55,7 +55,7 @@ impl Repeat {
     }
 
     /// That of all of some animations.
-    fn of_animations(anims: &[Anim], setup: &Setup) -> Repeat
+    pub(crate) fn of_animations(anims: &[Anim], setup: &Setup) -> Repeat
         requires { All IsTimed anims.now }
         ensures { IsRepeat setup.now anims.now result }
     {
