@@ -1,9 +1,9 @@
 -- The pieces between commas, one after the other.
-use Rattle.std.proofs.Common.{ℕ, suc, ◌≡◌, ◌∙◌, ◌&&◌, not, Bool, true, false, List, [], ◌∷◌, Option, Some, None, length, take, drop, refl, ap, sym, inl, inr, arith}
+use Rattle.std.proofs.Common.{ℕ, ◌≡◌, ◌∙◌, ◌&&◌, not, Bool, false, List, [], ◌∷◌, length, take, drop, refl, ap, sym, inl, inr, arith}
 use Rattle.std.proofs.lemmas.Bool.{cases_Bool}
 use Rattle.text_scan.specs.declared.token.CssToken.{CssToken}
 use Rattle.css_values.specs.Words.{Word, words, is_comma}
-use Rattle.css_values.specs.Lists.{pieces, goes_in, before_first}
+use Rattle.css_values.specs.Lists.{pieces, goes_in}
 use Rattle.css_values.specs.ListReading.{piece_length}
 
 -- the pieces behind a comma at the front

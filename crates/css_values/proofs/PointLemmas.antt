@@ -1,8 +1,8 @@
 -- The points of a curve, read one after the other.
-use Rattle.std.proofs.Common.{ℕ, ◌≡◌, Bool, List, [], ◌∷◌, Option, Some, None, option_map, refl, codes}
+use Rattle.std.proofs.Common.{ℕ, ◌≡◌, Bool, List, [], ◌∷◌, Some, option_map, refl, codes}
 use Rattle.css_values.specs.Words.{Word, behind, is_close}
 use Rattle.css_values.specs.Colours.{function_at, ended}
-use Rattle.css_values.specs.Easings.{Points, point_and_comma, thousandths_at, points_at}
+use Rattle.css_values.specs.Easings.{point_and_comma, thousandths_at, points_at}
 
 pub points_read : (words inside r1 r2 r3 r4 rest : List Word) (x1 y1 x2 y2 : Bool × ℕ) → function_at (codes "cubic-bezier(") words ≡ Some inside
     → point_and_comma inside ≡ Some (x1, r1) → point_and_comma r1 ≡ Some (y1, r2) → point_and_comma r2 ≡ Some (x2, r3)

@@ -1,12 +1,11 @@
 -- Colours that are given have channels from 0 to 255.
-use Rattle.std.proofs.Common.{ℕ, ◌≡◌, ◌≤◌, ◌<◌, ◌+◌, ◌*◌, ◌==◌, Bool, true, false, List, [], ◌∷◌, Option, Some, None, Result, Ok, Err, cond, length, min, codes, refl, ap, sym, subst, arith, nat_lt, option_and_then, slice_index}
+use Rattle.std.proofs.Common.{ℕ, ◌≡◌, ◌≤◌, ◌+◌, ◌*◌, ◌==◌, Bool, true, false, List, [], ◌∷◌, Option, Some, None, Ok, cond, length, min, codes, refl, ap, subst, arith, nat_lt, option_and_then}
 use Rattle.std.specs.Char.{digit_value}
-use Rattle.std.proofs.lemmas.Bool.Decides.{leb_tells, nat_tests}
+use Rattle.std.proofs.lemmas.Bool.Decides.{nat_tests}
 use Rattle.page_model.specs.declared.colour.Rgb.{Rgb}
 use Rattle.page_model.specs.ValidScene.{IsColour}
-use Rattle.css_values.specs.declared.fault.ValueFault.{ValueFault}
 use Rattle.css_values.specs.Keywords.{lookup, colour, colour_names}
-use Rattle.css_values.specs.Words.{Word, lone, when_hash, when_ident, behind, is_comma, is_close, or_bad, or_else}
+use Rattle.css_values.specs.Words.{Word, lone, when_hash, when_ident, behind, is_comma, is_close, or_else}
 use Rattle.css_values.specs.Colours.{pair, channels, hash_colour, function_at, whole_at, channel_at, channel_and_comma, ended, rgb_of, colour_of}
 use Rattle.css_values.proofs.ValidNumbers.{bad_ok}
 use Rattle.css_values.proofs.ValidEasings.{Entries, lookup_is}

@@ -1,19 +1,16 @@
 -- Easings that are given are in their limits.
-use Rattle.std.proofs.Common.{ℕ, ℤ, pos, neg_ℤ, Bool, true, false, not, ◌==◌, ◌&&◌, ◌||◌, ◌≡◌, ◌∙◌, ◌⊎◌, ◌≤◌, List, [], ◌∷◌, Option, Some, None, Result, Ok, Err, cond, refl, ap, sym, subst, inl, inr, arith, nat_lt, option_and_then}
-use Rattle.std.proofs.lemmas.Bool.Decides.{eqb_tells, leb_tells, nat_tests}
-use Rattle.std.proofs.lemmas.Int.{ints}
+use Rattle.std.proofs.Common.{ℕ, pos, neg_ℤ, Bool, true, false, not, ◌==◌, ◌&&◌, ◌||◌, ◌≡◌, ◌≤◌, List, [], ◌∷◌, Option, Some, None, Ok, Err, cond, refl, subst, arith, nat_lt, option_and_then}
+use Rattle.std.proofs.lemmas.Bool.Decides.{nat_tests}
 use Rattle.page_model.specs.declared.easing.Easing.{Easing}
-use Rattle.page_model.specs.declared.easing.Easing.TheVariants.{Linear, Steps, Cubic}
+use Rattle.page_model.specs.declared.easing.Easing.TheVariants.{Steps, Cubic}
 use Rattle.page_model.specs.declared.easing.Jump.{Jump}
-use Rattle.page_model.specs.declared.easing.Jump.TheVariants.{Start, End, Neither, Both}
-use Rattle.page_model.specs.ValidScene.{IsBetween, IsEasing, AreSteps, IsCurve, least_steps}
-use Rattle.css_values.specs.declared.fault.ValueFault.{ValueFault}
+use Rattle.page_model.specs.ValidScene.{IsBetween, IsEasing, IsCurve, least_steps}
 use Rattle.css_values.specs.declared.fault.ValueFault.TheVariants.{BadValue, OverLimit}
 use Rattle.css_values.specs.Keywords.{is_keyword, lookup, easing_words}
 use Rattle.css_values.specs.Words.{Word, lone, when_ident, or_bad}
 use Rattle.css_values.specs.Easings.{Points, steps_at, steps_of, points_at, is_column, curve_of, stepped, worded, easing_function, easing_of}
 use Rattle.css_values.specs.Quantities.{signed_int}
-use Rattle.css_values.proofs.ValidNumbers.{if_ok, bad_ok, Held, between}
+use Rattle.css_values.proofs.ValidNumbers.{if_ok, bad_ok, between}
 
 -- what holds of each entry of a table holds of what is found there
 abbrev pub Entries : {A : Type 0} → (A → Type 0) → List (List ℕ × A) → Type 0

@@ -1,5 +1,5 @@
 -- A list that is given has an item, and each of its items is good.
-use Rattle.std.proofs.Common.{ℕ, zero, suc, Bool, true, false, not, ◌&&◌, ◌≡◌, ◌∙◌, ◌<◌, List, [], ◌∷◌, Result, Ok, Err, cond, length, map, refl, ap, sym, subst, inl, inr, arith, All, get_or}
+use Rattle.std.proofs.Common.{ℕ, zero, suc, Bool, false, not, ◌&&◌, ◌≡◌, ◌<◌, List, [], ◌∷◌, Result, Ok, Err, length, map, refl, ap, sym, subst, inl, inr, arith, All, get_or}
 use Rattle.std.specs.List.{AllByRecursion}
 use Rattle.std.proofs.lemmas.Bool.{cases_Bool}
 use Rattle.css_values.specs.declared.fault.ValueFault.{ValueFault}

@@ -1,13 +1,12 @@
 -- The longhands of a declaration have values in their limits.
-use Rattle.std.proofs.Common.{ℕ, ℤ, pos, Bool, true, false, ◌≡◌, ◌<◌, ◌≤◌, List, [], ◌∷◌, Option, Some, None, Result, Ok, Err, cond, length, map, refl, ap, sym, subst, arith, All, IfOk, codes}
+use Rattle.std.proofs.Common.{Bool, true, false, ◌≡◌, ◌≤◌, List, [], ◌∷◌, Result, Ok, Err, map, subst, All, IfOk, codes}
 use Rattle.std.specs.List.{AllByRecursion}
 use Rattle.std.proofs.lemmas.List.{length-map}
 use Rattle.std.proofs.lemmas.List.Elements.{All-map}
 use Rattle.page_model.specs.declared.rule.Longhand.{Longhand}
 use Rattle.page_model.specs.declared.rule.Longhand.TheVariants as longhands
-use Rattle.page_model.specs.ValidScene.{IsColour, IsPosition, IsExtent, IsEasing, IsCount}
+use Rattle.page_model.specs.ValidScene.{IsEasing, IsCount}
 use Rattle.css_values.specs.declared.fault.ValueFault.{ValueFault}
-use Rattle.css_values.specs.declared.fault.ValueFault.TheVariants.{BadValue, OverLimit, NoMemory}
 use Rattle.css_values.specs.declared.shorthand.Shorthand.{Shorthand}
 use Rattle.css_values.specs.declared.types.Property.{Property}
 use Rattle.css_values.specs.declared.types.Property.TheVariants.{Position, Left, Top, Width, Height, BackgroundColor, Background, Opacity, Visibility, ZIndex, Margin, Padding, AnimationName, AnimationDuration, AnimationDelay, AnimationTimingFunction, AnimationIterationCount, AnimationDirection, AnimationFillMode, AnimationPlayState, Animation}
@@ -18,9 +17,9 @@ use Rattle.css_values.specs.Lists.{list_of, Gives}
 use Rattle.css_values.specs.Names.{keyword_of, name_of}
 use Rattle.css_values.specs.Quantities.{count_of, duration_of, is_nothing, length_of, opacity_of, time_of, z_index_of}
 use Rattle.css_values.specs.ShorthandGrammar.{item_of}
-use Rattle.css_values.specs.ValidValues.{IsTime, IsLevel, AreItems, IsAny, IsLonghand}
+use Rattle.css_values.specs.ValidValues.{IsTime, AreItems, IsAny, IsLonghand}
 use Rattle.css_values.specs.ValueGrammar.{only_if, longhand_of, columns, is_shorthand, declaration_of}
-use Rattle.css_values.specs.Words.{Word, is_lone, mapped}
+use Rattle.css_values.specs.Words.{Word, is_lone}
 use Rattle.css_values.proofs.ValidNumbers.{if_ok, mapped_ok, length_is, extent_is, time_is, duration_is, opacity_is, level_is, count_is}
 use Rattle.css_values.proofs.ValidColours.{colour_is}
 use Rattle.css_values.proofs.ValidEasings.{easing_is}

@@ -1,7 +1,6 @@
 -- Numbers that are given are in their limits.
-use Rattle.std.proofs.Common.{ℕ, ℤ, pos, neg_ℤ, Bool, true, false, not, ◌==◌, ◌&&◌, ◌≡◌, ◌∙◌, ◌⊎◌, ◌≤◌, ◌<◌, List, [], ◌∷◌, Option, Some, None, Result, Ok, Err, cond, length, min, codes, refl, ap, sym, subst, inl, inr, arith, nat_lt, IfOk}
-use Rattle.std.proofs.lemmas.Bool.{cases_Bool}
-use Rattle.std.proofs.lemmas.Bool.Decides.{eqb_tells, leb_tells, nat_tests}
+use Rattle.std.proofs.Common.{ℕ, ℤ, pos, neg_ℤ, Bool, true, false, not, ◌==◌, ◌&&◌, ◌≡◌, ◌≤◌, List, Option, Some, None, Result, Ok, Err, cond, length, min, codes, refl, sym, subst, inl, inr, arith, nat_lt, IfOk}
+use Rattle.std.proofs.lemmas.Bool.Decides.{eqb_tells, nat_tests}
 use Rattle.std.proofs.lemmas.Int.{ints}
 use Rattle.page_model.specs.declared.animation.Count.{Count}
 use Rattle.page_model.specs.declared.animation.Count.TheVariants.{Times, Infinite}

@@ -1,13 +1,11 @@
 -- An item of the shorthand that is given has numbers in their limits.
-use Rattle.std.proofs.Common.{ℕ, ℤ, pos, neg_ℤ, Bool, true, false, ◌≡◌, ◌≤◌, List, [], ◌∷◌, Option, Some, None, Result, Ok, Err, cond, IfSome, is_some, unwrap_or, option_and_then, refl, ap, sym, subst, arith}
+use Rattle.std.proofs.Common.{pos, Bool, true, false, ◌≡◌, ◌≤◌, List, [], ◌∷◌, Option, Some, None, Result, Ok, Err, cond, IfSome, is_some, unwrap_or, option_and_then, refl, subst, arith}
 use Rattle.std.proofs.lemmas.Int.{ints}
-use Rattle.page_model.specs.declared.animation.Count.{Count}
-use Rattle.page_model.specs.declared.animation.Count.TheVariants.{Times, Infinite}
+use Rattle.page_model.specs.declared.animation.Count.TheVariants.{Times}
 use Rattle.page_model.specs.declared.animation.Direction.TheVariants.{Normal}
 use Rattle.page_model.specs.declared.animation.Fill.TheVariants.{Absent}
-use Rattle.page_model.specs.declared.easing.Easing.{Easing}
-use Rattle.page_model.specs.declared.easing.Easing.TheVariants.{Linear, Cubic}
-use Rattle.page_model.specs.ValidScene.{IsBetween, IsEasing, IsCurve, IsCount}
+use Rattle.page_model.specs.declared.easing.Easing.TheVariants.{Cubic}
+use Rattle.page_model.specs.ValidScene.{IsEasing, IsCount}
 use Rattle.css_values.specs.declared.fault.ValueFault.{ValueFault}
 use Rattle.css_values.specs.declared.fault.ValueFault.TheVariants.{BadValue, OverLimit, NoMemory}
 use Rattle.css_values.specs.declared.shorthand.Shorthand.{Shorthand}
@@ -17,8 +15,8 @@ use Rattle.css_values.specs.Names.{keyword_of, name_of}
 use Rattle.css_values.specs.Quantities.{count_of, duration_of, time_of}
 use Rattle.css_values.specs.ShorthandGrammar.{Slots, free, taken, chosen, take_time, take_easing, take_count, take_direction, take_fill, take_play, take_name, take_keyword, take_word, take_all, is_value, groups, settled, item_of}
 use Rattle.css_values.specs.ValidValues.{IsTime}
-use Rattle.css_values.specs.Words.{Word, or_bad, or_else}
-use Rattle.css_values.proofs.ValidNumbers.{if_ok, bad_ok, duration_is, time_is, count_is, between}
+use Rattle.css_values.specs.Words.{Word, or_else}
+use Rattle.css_values.proofs.ValidNumbers.{if_ok, bad_ok, duration_is, time_is, count_is}
 use Rattle.css_values.proofs.ValidEasings.{easing_is, small_curve}
 
 -- the numbers of an item are in their limits

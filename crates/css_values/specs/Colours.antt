@@ -1,5 +1,5 @@
 -- Colours.
-use Rattle.std.specs.Prelude.{ℕ, ◌==◌, ◌+◌, ◌*◌, List, [], ◌∷◌, length, slice_index, Option, Some, None, Result, Ok, Err, nat_lt, min, codes, option_and_then, if◌then◌else◌}
+use Rattle.std.specs.Prelude.{ℕ, ◌==◌, ◌+◌, ◌*◌, List, [], ◌∷◌, length, slice_index, Option, Some, None, Result, Ok, nat_lt, min, codes, option_and_then, if◌then◌else◌}
 use Rattle.std.specs.Char.{digit_value}
 use Rattle.page_model.specs.declared.colour.Rgb.{Rgb}
 use Rattle.css_values.specs.declared.fault.ValueFault.{ValueFault}

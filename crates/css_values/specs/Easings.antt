@@ -1,9 +1,9 @@
 -- Easings: CSS Easing Functions Level 1, as a profile.
-use Rattle.std.specs.Prelude.{ℕ, ℤ, pos, Bool, true, false, ◌==◌, ◌&&◌, ◌||◌, not, List, [], ◌∷◌, length, Option, Some, None, Result, Ok, Err, nat_lt, codes, option_and_then, if◌then◌else◌}
+use Rattle.std.specs.Prelude.{ℕ, Bool, ◌==◌, ◌&&◌, ◌||◌, not, List, length, Option, Some, None, Result, Ok, Err, nat_lt, codes, option_and_then, if◌then◌else◌}
 use Rattle.page_model.specs.declared.easing.Easing.{Easing}
-use Rattle.page_model.specs.declared.easing.Easing.TheVariants.{Linear, Steps, Cubic}
+use Rattle.page_model.specs.declared.easing.Easing.TheVariants.{Steps, Cubic}
 use Rattle.page_model.specs.declared.easing.Jump.{Jump}
-use Rattle.page_model.specs.declared.easing.Jump.TheVariants.{Start, End, Neither, Both}
+use Rattle.page_model.specs.declared.easing.Jump.TheVariants.{End}
 use Rattle.page_model.specs.ValidScene.{least_steps}
 use Rattle.css_values.specs.declared.fault.ValueFault.{ValueFault}
 use Rattle.css_values.specs.declared.fault.ValueFault.TheVariants.{BadValue, OverLimit}

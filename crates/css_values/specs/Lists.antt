@@ -1,5 +1,5 @@
 -- Lists of values with commas between. One wrong item makes the whole list wrong; else one past a limit makes it past a limit.
-use Rattle.std.specs.Prelude.{Bool, true, false, ◌≡◌, ◌&&◌, not, List, [], ◌∷◌, ◌++◌, map, Option, Some, None, Result, Ok, Err, if◌then◌else◌}
+use Rattle.std.specs.Prelude.{Bool, true, false, ◌≡◌, ◌&&◌, not, List, [], ◌∷◌, map, Result, Ok, Err, if◌then◌else◌}
 use Rattle.text_scan.specs.declared.token.CssKind.{CssKind}
 use Rattle.text_scan.specs.declared.token.CssKind.TheVariants.{Function, RightParen}
 use Rattle.css_values.specs.declared.fault.ValueFault.{ValueFault}

@@ -1,5 +1,5 @@
 -- Items that are one word.
-use Rattle.std.specs.Prelude.{ℕ, Bool, List, [], ◌∷◌, Option, Some, None, Result, Ok, Err, codes, option_and_then, if◌then◌else◌}
+use Rattle.std.specs.Prelude.{ℕ, List, Option, Some, None, Result, Ok, Err, codes, option_and_then, if◌then◌else◌}
 use Rattle.css_values.specs.declared.fault.ValueFault.{ValueFault}
 use Rattle.css_values.specs.declared.fault.ValueFault.TheVariants.{BadValue}
 use Rattle.css_values.specs.Keywords.{is_keyword, lookup, reserved_words}

@@ -1,5 +1,5 @@
 -- Lengths, times, percentages and plain numbers. A negative number where none may be spells no value; -0 is 0.
-use Rattle.std.specs.Prelude.{ℕ, ℤ, pos, neg_ℤ, Bool, true, false, ◌==◌, ◌&&◌, ◌||◌, not, List, [], ◌∷◌, length, Option, Some, None, Result, Ok, Err, nat_lt, min, codes, if◌then◌else◌}
+use Rattle.std.specs.Prelude.{ℕ, ℤ, pos, neg_ℤ, Bool, true, false, ◌==◌, ◌&&◌, ◌||◌, not, List, length, Some, None, Result, Ok, Err, nat_lt, min, codes, if◌then◌else◌}
 use Rattle.page_model.specs.declared.animation.Count.{Count}
 use Rattle.page_model.specs.declared.animation.Count.TheVariants.{Times, Infinite}
 use Rattle.css_values.specs.declared.fault.ValueFault.{ValueFault}

@@ -1,5 +1,5 @@
 -- What holds of each value that is given, as a valid scene needs it: numbers in their limits, no empty list.
-use Rattle.std.specs.Prelude.{ℕ, ℤ, pos, neg_ℤ, Bool, ◌<◌, ◌≤◌, List, length, All}
+use Rattle.std.specs.Prelude.{ℤ, pos, neg_ℤ, ◌<◌, ◌≤◌, List, length, All}
 use Rattle.page_model.specs.declared.rule.Longhand.{Longhand}
 use Rattle.page_model.specs.declared.rule.Longhand.TheVariants.{Position, Left, Top, Width, Height, Colour, Opacity, Visibility, ZIndex, Margin, Padding, Names, Durations, Easings, Delays, Counts, Directions, Fills, Paused}
 use Rattle.page_model.specs.ValidScene.{IsBetween, IsColour, IsPosition, IsExtent, IsEasing, IsCount}

@@ -1,5 +1,5 @@
 -- The value of each property: its longhands, in the order of the variants of Longhand.
-use Rattle.std.specs.Prelude.{ℕ, Bool, true, false, List, [], ◌∷◌, map, Result, Ok, Err, codes, if◌then◌else◌}
+use Rattle.std.specs.Prelude.{Bool, true, false, List, [], ◌∷◌, map, Result, Ok, Err, codes, if◌then◌else◌}
 use Rattle.page_model.specs.declared.rule.Longhand.{Longhand}
 use Rattle.page_model.specs.declared.rule.Longhand.TheVariants as longhands
 use Rattle.css_values.specs.declared.fault.ValueFault.{ValueFault}

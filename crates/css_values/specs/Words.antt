@@ -1,5 +1,5 @@
 -- The tokens of a value as words: their kinds and their bytes.
-use Rattle.std.specs.Prelude.{ℕ, Bool, true, false, ◌&&◌, ◌==◌, List, [], ◌∷◌, map, length, Option, Some, None, Result, Ok, Err, nat_le, slice_range, option_and_then, if◌then◌else◌}
+use Rattle.std.specs.Prelude.{ℕ, Bool, true, false, ◌&&◌, List, [], ◌∷◌, map, length, Option, Some, None, Result, Ok, Err, nat_le, slice_range, option_and_then, if◌then◌else◌}
 use Rattle.text_scan.specs.declared.token.CssKind.{CssKind}
 use Rattle.text_scan.specs.declared.token.CssKind.TheVariants.{Ident, Function, Hash, Number, Comma, RightParen}
 use Rattle.text_scan.specs.declared.token.CssToken.{CssToken}

@@ -27,6 +27,8 @@ mod numeral;
 mod quantity;
 mod shorthand;
 mod tables;
+#[cfg(test)]
+mod tests;
 pub mod types;
 mod word;
 

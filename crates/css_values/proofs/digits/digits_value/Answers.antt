@@ -1,4 +1,4 @@
-use Rattle.std.proofs.Common.{◌≡◌, ◌≤◌, ◌*◌, ◌+◌, ◌^◌, ◌-◌, suc, ◌∙◌, ap, sym, subst, length, arith, ℕ}
+use Rattle.std.proofs.Common.{◌≡◌, ◌≤◌, ◌*◌, ◌+◌, ◌^◌, ◌-◌, suc, ◌∙◌, subst, length, arith, ℕ}
 use Rattle.css_values.proofs.DigitLemmas.{one_more, next_digit}
 use Rattle.css_values.proofs.digits.digits_value.Goals as goal
 

@@ -1,4 +1,4 @@
-use Rattle.std.proofs.Common.{ap, sym, take, length, ◌-◌, ◌∙◌}
+use Rattle.std.proofs.Common.{ap, take, length, ◌-◌, ◌∙◌}
 use Rattle.css_values.proofs.DigitLemmas.{front_digits}
 use Rattle.css_values.proofs.digits.split_digits.Goals as goal
 

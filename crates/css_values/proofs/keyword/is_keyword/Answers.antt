@@ -1,4 +1,4 @@
-use Rattle.std.proofs.Common.{map, sym, ◌↔◌}
+use Rattle.std.proofs.Common.{map}
 use Rattle.std.specs.Char.{to_ascii_lowercase}
 use Rattle.std.proofs.lemmas.Slice.Eq.{bytes_eq-Decides}
 use Rattle.std.proofs.lemmas.Bool.Decides.{same_from_decides}

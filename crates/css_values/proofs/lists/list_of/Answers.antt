@@ -1,4 +1,4 @@
-use Rattle.std.proofs.Common.{◌≡◌, ◌∙◌, ◌∷◌, ap}
+use Rattle.std.proofs.Common.{◌∙◌, ◌∷◌, ap}
 use Rattle.std.specs.Option.{option_copied}
 use Rattle.css_values.specs.Words.{words}
 use Rattle.css_values.specs.ListReading.{later}

@@ -2,8 +2,6 @@ use Rattle.std.proofs.Common.{◌≡◌, map, false, length}
 use Rattle.css_values.specs.ListReading.{resumed}
 use Rattle.css_values.specs.Lists.{gather, list_of, pieces}
 use Rattle.css_values.specs.Words.{words}
-use Rattle.css_values.proofs.ListLemmas.{item_added}
-use Rattle.css_values.proofs.PieceLemmas.{piece_found}
 use Rattle.css_values.proofs.lists.list_of.Given as goal
 
 abbrev pub invariant-items : goal.invariant-items

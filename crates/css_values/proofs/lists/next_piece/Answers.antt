@@ -1,4 +1,4 @@
-use Rattle.std.proofs.Common.{◌≡◌, ◌∷◌, ◌∙◌, ap}
+use Rattle.std.proofs.Common.{◌∷◌, ◌∙◌, ap}
 use Rattle.css_values.specs.Words.{words}
 use Rattle.css_values.proofs.PieceLemmas.{pieces_behind, none_behind, piece_found}
 use Rattle.css_values.proofs.lists.next_piece.Goals as goal
