@@ -1,0 +1,14 @@
+pub mod KeywordLemmas
+pub mod MeasureLemmas
+pub mod NumberLemmas
+pub mod QuantityLemmas
+pub mod Readings
+pub mod SizeLemmas
+pub mod WordLemmas
+pub mod TableLemmas
+pub mod FrontLemmas
+pub mod ColourLemmas
+pub mod EasingLemmas
+pub mod EasingReadings
+pub mod ListLemmas
+pub mod ClosingLemmas
