@@ -12,3 +12,4 @@ pub mod EasingLemmas
 pub mod EasingReadings
 pub mod ListLemmas
 pub mod ClosingLemmas
+pub mod LonghandLemmas

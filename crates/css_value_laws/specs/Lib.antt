@@ -5,3 +5,4 @@ pub mod SpelledWords
 pub mod ValueLaws
 pub mod SpelledEasings
 pub mod SpelledLists
+pub mod SpelledLonghands

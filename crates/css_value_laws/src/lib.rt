@@ -16,12 +16,14 @@ mod colours;
 mod easings;
 mod keywords;
 mod lists;
+mod properties;
 mod quantities;
 
 pub use colours::colours_are_spelled;
 pub use easings::easings_are_spelled;
 pub use keywords::{keywords_are_spelled, names_are_spelled};
 pub use lists::lists_are_spelled;
+pub use properties::longhands_are_spelled;
 pub use quantities::{
     lengths_are_spelled, nothing_is_spelled, plain_numbers_are_spelled, times_are_spelled,
 };
