@@ -13,3 +13,9 @@ pub mod EasingReadings
 pub mod ListLemmas
 pub mod ClosingLemmas
 pub mod LonghandLemmas
+pub mod SlotLemmas
+pub mod PartLemmas
+pub mod TakeLemmas
+pub mod StepLemmas
+pub mod ItemLemmas
+pub mod DeclarationLemmas

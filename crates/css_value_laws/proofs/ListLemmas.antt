@@ -114,7 +114,7 @@ judged item S P reads words parts (joined w comma rest others tail) =
 abbrev pub Closes : {A : Type 0} → (List Word → A → Type 0) → (List Word → Type 0) → Type 0
 Closes {A} S P = ((words : List Word) (v : A) → S words v → closes false words ≡ true) × ((words : List Word) → P words → closes false words ≡ true)
 
-mark_closes : {A : Type 0} (S : List Word → A → Type 0) (P : List Word → Type 0) → Closes S P → (words : List Word) (m : Option A) → IsMarked S P words m
+pub mark_closes : {A : Type 0} (S : List Word → A → Type 0) (P : List Word → Type 0) → Closes S P → (words : List Word) (m : Option A) → IsMarked S P words m
     → closes false words ≡ true
 mark_closes S P closing words (Some v) is = closing.0 words v is
 mark_closes S P closing words None is = closing.1 words is

@@ -1,8 +1,7 @@
 -- Longhands that are read are those that are spelled.
-use Rattle.std.proofs.Common.{ℕ, ◌≡◌, ◌∙◌, Bool, true, false, List, [], ◌∷◌, Result, Ok, Err, refl, ap, sym, subst, codes}
+use Rattle.std.proofs.Common.{◌≡◌, Bool, true, false, List, refl, codes}
 use Rattle.page_model.specs.declared.rule.Longhand.{Longhand}
 use Rattle.page_model.specs.declared.rule.Longhand.TheVariants as longhands
-use Rattle.css_values.specs.declared.fault.ValueFault.{ValueFault}
 use Rattle.css_values.specs.declared.types.Property.{Property}
 use Rattle.css_values.specs.declared.types.Property.TheVariants.{Position, Left, Top, Width, Height, BackgroundColor, Background, Opacity, Visibility, ZIndex, Margin, Padding, AnimationName, AnimationDuration, AnimationDelay, AnimationTimingFunction, AnimationIterationCount, AnimationDirection, AnimationFillMode, AnimationPlayState, Animation}
 use Rattle.css_values.specs.Colours.{colour_of}
@@ -12,7 +11,7 @@ use Rattle.css_values.specs.Lists.{list_of}
 use Rattle.css_values.specs.Names.{keyword_of, name_of}
 use Rattle.css_values.specs.Quantities.{count_of, duration_of, is_nothing, length_of, opacity_of, time_of, z_index_of}
 use Rattle.css_values.specs.ValueGrammar.{longhand_of, only_if}
-use Rattle.css_values.specs.Words.{Word, is_lone, mapped}
+use Rattle.css_values.specs.Words.{Word, is_lone}
 use Rattle.css_value_laws.specs.SpelledEasings.{SpellsEasing, PastEasing}
 use Rattle.css_value_laws.specs.SpelledLonghands.{SpellsLonghand, PastLonghand}
 use Rattle.css_value_laws.specs.SpelledQuantities.{SpellsTime, PastTime, SpellsDuration, SpellsCount, PastCount}

@@ -23,16 +23,16 @@ use Rattle.css_value_laws.proofs.Readings.{Reads, Becomes, reads_bad, reads_ok, 
 clear_px : Clear (codes "px")
 clear_px = λ written is. unit_clear 112 (codes "x") written refl is
 
-clear_s : Clear (codes "s")
+pub clear_s : Clear (codes "s")
 clear_s = λ written is. unit_clear 115 [] written refl is
 
-clear_ms : Clear (codes "ms")
+pub clear_ms : Clear (codes "ms")
 clear_ms = λ written is. unit_clear 109 (codes "s") written refl is
 
 clear_percent : Clear (codes "%")
 clear_percent = λ written is. unit_clear 37 [] written refl is
 
-clear_none : Clear []
+pub clear_none : Clear []
 clear_none = none_clear
 
 signed_is : (sign : Sign) (size : ℕ) → signed_int (is_minus sign) size ≡ with_sign sign size
@@ -92,7 +92,7 @@ plain_reads unit places limit words n clear e has =
     (λ p. p) (λ p. p)
 
 -- of two units that differ, a number has one
-other_unit : (a b written : List ℕ) → is_keyword a b ≡ false → is_keyword a written ≡ true → is_keyword b written ≡ true → ⊥
+pub other_unit : (a b written : List ℕ) → is_keyword a b ≡ false → is_keyword a written ≡ true → is_keyword b written ≡ true → ⊥
 other_unit a b written differ p q = let is = one_keyword a b written p q in cc
 
 no_within : (unit : List ℕ) (places limit : ℕ) (signed : Bool) (words : List Word) (n : Numeral) (v : ℤ) → Clear unit → lone_number words ≡ Some n
@@ -121,7 +121,7 @@ apart_px : is_keyword (codes "px") [] ≡ false
 unfolding is_keyword
 apart_px = refl
 
-apart_s : is_keyword (codes "s") (codes "ms") ≡ false
+pub apart_s : is_keyword (codes "s") (codes "ms") ≡ false
 unfolding is_keyword
 apart_s = refl
 

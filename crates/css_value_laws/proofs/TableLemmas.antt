@@ -1,6 +1,6 @@
 -- The words of each table differ.
 use Rattle.std.proofs.Common.{◌≡◌, true, refl}
-use Rattle.css_values.specs.Keywords.{is_keyword, colour_names, easing_words, jump_words, direction_words, fill_words, play_words, visibility_words}
+use Rattle.css_values.specs.Keywords.{is_keyword, colour_names, easing_words, jump_words, direction_words, fill_words, play_words, property_names, visibility_words}
 use Rattle.css_value_laws.proofs.WordLemmas.{are_distinct}
 
 pub colours_differ : are_distinct colour_names ≡ true
@@ -30,3 +30,7 @@ plays_differ = refl
 pub visibilities_differ : are_distinct visibility_words ≡ true
 unfolding visibility_words is_keyword
 visibilities_differ = refl
+
+pub properties_differ : are_distinct property_names ≡ true
+unfolding property_names is_keyword
+properties_differ = refl

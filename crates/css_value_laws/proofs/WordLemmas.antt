@@ -18,7 +18,7 @@ use Rattle.css_value_laws.proofs.Readings.{Reads, reads_bad, reads_ok, reads_of}
 use Rattle.css_value_laws.proofs.SizeLemmas.{size_to, size_from}
 
 -- no word of the table is this one
-abbrev absent : {A : Type 0} → List ℕ → List (List ℕ × A) → Bool
+abbrev pub absent : {A : Type 0} → List ℕ → List (List ℕ × A) → Bool
 absent keyword [] = true
 absent keyword (entry ∷ table) = not (is_keyword keyword entry.0) && absent keyword table
 
@@ -34,7 +34,7 @@ entry_to {A} (entry ∷ table) bytes value e = elim (cases_Bool (is_keyword entr
   | inr other ↦ let f : lookup table bytes ≡ Some value = rw other at e in inr (entry_to table bytes value f)
 ]
 
-entry_absent : {A : Type 0} (table : List (List ℕ × A)) (bytes keyword : List ℕ) (value : A) → is_keyword keyword bytes ≡ true → absent keyword table ≡ true
+pub entry_absent : {A : Type 0} (table : List (List ℕ × A)) (bytes keyword : List ℕ) (value : A) → is_keyword keyword bytes ≡ true → absent keyword table ≡ true
     → IsEntry table bytes value → ⊥
 entry_absent [] bytes keyword value is none found = found
 entry_absent (entry ∷ table) bytes keyword value is none found =

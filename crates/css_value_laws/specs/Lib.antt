@@ -6,3 +6,5 @@ pub mod ValueLaws
 pub mod SpelledEasings
 pub mod SpelledLists
 pub mod SpelledLonghands
+pub mod SpelledShorthand
+pub mod Spelling

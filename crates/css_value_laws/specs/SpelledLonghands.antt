@@ -1,5 +1,5 @@
 -- The value of each property that sets one longhand.
-use Rattle.std.specs.Prelude.{ℕ, true, false, ◌≡◌, List, codes}
+use Rattle.std.specs.Prelude.{true, false, ◌≡◌, List, codes}
 use Rattle.page_model.specs.declared.rule.Longhand.{Longhand}
 use Rattle.page_model.specs.declared.rule.Longhand.TheVariants as longhands
 use Rattle.css_values.specs.declared.types.Property.{Property}

@@ -18,12 +18,14 @@ mod keywords;
 mod lists;
 mod properties;
 mod quantities;
+mod shorthand;
 
 pub use colours::colours_are_spelled;
 pub use easings::easings_are_spelled;
 pub use keywords::{keywords_are_spelled, names_are_spelled};
 pub use lists::lists_are_spelled;
-pub use properties::longhands_are_spelled;
+pub use properties::{declarations_are_spelled, longhands_are_spelled, properties_are_named};
 pub use quantities::{
     lengths_are_spelled, nothing_is_spelled, plain_numbers_are_spelled, times_are_spelled,
 };
+pub use shorthand::items_are_spelled;

@@ -1,10 +1,25 @@
 // Properties.
+ghost use Rattle.std.specs.Prelude.{ℕ, List, Some, ◌≡◌, ◌↔◌};
 ghost use Rattle.css_values.specs.declared.types.Property.{Property};
-ghost use Rattle.css_values.specs.ValueGrammar.{longhand_of};
+ghost use Rattle.css_values.specs.Keywords.{lookup, property_names};
+ghost use Rattle.css_values.specs.ValueGrammar.{declaration_of, longhand_of};
 ghost use Rattle.css_value_laws.specs.SpelledLonghands.{PastLonghand, SpellsLonghand};
+ghost use Rattle.css_value_laws.specs.Spelling.{Spells, SpellsPast};
+ghost use Rattle.css_value_laws.specs.SpelledWords.{IsEntry};
 ghost use Rattle.css_value_laws.specs.ValueLaws.{Agrees};
+
+/// A property is found exactly where the bytes are its name, in any case.
+pub fn properties_are_named()
+    ensures { (bytes : List ℕ) (property : Property) → (lookup property_names bytes ≡ Some property) ↔ IsEntry property_names bytes property }
+{}
 
 /// The one longhand of each property but the shorthand is read as it is spelled.
 pub fn longhands_are_spelled()
     ensures { (property : Property) → Agrees (longhand_of property) (SpellsLonghand property) (PastLonghand property) }
+{}
+
+/// The value of a declaration of each property is read as it is spelled: what `declaration` of `css_values` gives is
+/// what the words spell.
+pub fn declarations_are_spelled()
+    ensures { (property : Property) → Agrees (declaration_of property) (Spells property) (SpellsPast property) }
 {}
