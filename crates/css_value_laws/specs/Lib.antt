@@ -1,10 +1,7 @@
 pub mod SpelledColours
+pub mod SpelledEasings
+pub mod SpelledLists
 pub mod SpelledNumbers
 pub mod SpelledQuantities
 pub mod SpelledWords
 pub mod ValueLaws
-pub mod SpelledEasings
-pub mod SpelledLists
-pub mod SpelledLonghands
-pub mod SpelledShorthand
-pub mod Spelling

@@ -5,7 +5,8 @@
 //! a point, digits and a unit; a list is items with commas between; a word of a table is one of its entries. Each
 //! public function here has no parameters and an empty body, and its clauses are laws: a reading gives a value
 //! exactly where the words spell it, is past a limit exactly where they spell one past it, and gives neither exactly
-//! where they spell none. So words spell one value at most.
+//! where they spell none. So words spell one value at most. `css_declaration_laws` has the shorthand and the properties
+//! above it.
 //!
 //! Users who doubt a reading function read the relation in `specs/` beside the public standard, and nothing else.
 //! The bytes of commas and parentheses, and the mark before a colour's digits, are those of their tokens' kinds and
@@ -16,16 +17,12 @@ mod colours;
 mod easings;
 mod keywords;
 mod lists;
-mod properties;
 mod quantities;
-mod shorthand;
 
 pub use colours::colours_are_spelled;
 pub use easings::easings_are_spelled;
 pub use keywords::{keywords_are_spelled, names_are_spelled};
 pub use lists::lists_are_spelled;
-pub use properties::{declarations_are_spelled, longhands_are_spelled, properties_are_named};
 pub use quantities::{
     lengths_are_spelled, nothing_is_spelled, plain_numbers_are_spelled, times_are_spelled,
 };
-pub use shorthand::items_are_spelled;

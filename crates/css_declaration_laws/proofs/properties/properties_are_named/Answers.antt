@@ -1,7 +1,7 @@
 use Rattle.css_values.specs.Keywords.{property_names}
 use Rattle.css_value_laws.proofs.TableLemmas.{properties_differ}
 use Rattle.css_value_laws.proofs.WordLemmas.{entry_from, entry_to}
-use Rattle.css_value_laws.proofs.properties.properties_are_named.Goals as goal
+use Rattle.css_declaration_laws.proofs.properties.properties_are_named.Goals as goal
 
 pub returns : goal.returns
 returns c = λ bytes property. (entry_to property_names bytes property, entry_from property_names bytes property properties_differ)

@@ -8,8 +8,8 @@ use Rattle.css_values.specs.declared.types.Property.TheVariants.{Animation}
 use Rattle.css_values.specs.ValueGrammar.{columns}
 use Rattle.css_values.specs.Words.{Word}
 use Rattle.css_value_laws.specs.SpelledLists.{IsList, IsPastList}
-use Rattle.css_value_laws.specs.SpelledLonghands.{SpellsLonghand, PastLonghand}
-use Rattle.css_value_laws.specs.SpelledShorthand.{SpellsItem, PastItem}
+use Rattle.css_declaration_laws.specs.SpelledLonghands.{SpellsLonghand, PastLonghand}
+use Rattle.css_declaration_laws.specs.SpelledShorthand.{SpellsItem, PastItem}
 
 -- the shorthand sets eight longhands, each with its part of each item
 pub record SpellsShorthand (words : List Word) (all : List Longhand) : Type 0 where

@@ -4,12 +4,12 @@ use Rattle.std.proofs.lemmas.Bool.{cases_Bool}
 use Rattle.css_values.specs.Quantities.{time_of}
 use Rattle.css_values.specs.ShorthandGrammar.{Slots, is_value, take_time, take_easing, take_count, take_direction, take_fill, take_play, take_name, take_keyword, take_word}
 use Rattle.css_values.specs.Words.{Word, or_else}
-use Rattle.css_value_laws.specs.SpelledShorthand.{Part, slot_of, same_slot, is_taken, IsPart, MayTake}
-use Rattle.css_value_laws.specs.SpelledShorthand.Part.{duration, delay, easing, count, direction, fill, play, name}
-use Rattle.css_value_laws.specs.SpelledShorthand.Slot.{name_slot}
-use Rattle.css_value_laws.proofs.SlotLemmas.{put, held}
-use Rattle.css_value_laws.proofs.PartLemmas.{easing_no_time, count_no_time, count_no_easing, ident_no_time, name_no_time, direction_no_easing, direction_no_count, fill_no_easing, fill_no_count, fill_no_direction, play_no_easing, play_no_count, play_no_direction, play_no_fill, is_time, no_time, duration_time}
-use Rattle.css_value_laws.proofs.TakeLemmas.{Step, time_to, duration_from, delay_from, easing_from, easing_to, no_easing, easing_full, count_from, count_to, no_count, count_full, direction_from, direction_to, no_direction, direction_full, fill_from, fill_to, no_fill, fill_full, play_from, play_to, no_play, play_full, name_from, name_to}
+use Rattle.css_declaration_laws.specs.SpelledShorthand.{Part, slot_of, same_slot, is_taken, IsPart, MayTake}
+use Rattle.css_declaration_laws.specs.SpelledShorthand.Part.{duration, delay, easing, count, direction, fill, play, name}
+use Rattle.css_declaration_laws.specs.SpelledShorthand.Slot.{name_slot}
+use Rattle.css_declaration_laws.proofs.SlotLemmas.{put, held}
+use Rattle.css_declaration_laws.proofs.PartLemmas.{easing_no_time, count_no_time, count_no_easing, ident_no_time, name_no_time, direction_no_easing, direction_no_count, fill_no_easing, fill_no_count, fill_no_direction, play_no_easing, play_no_count, play_no_direction, play_no_fill, is_time, no_time, duration_time}
+use Rattle.css_declaration_laws.proofs.TakeLemmas.{Step, time_to, duration_from, delay_from, easing_from, easing_to, no_easing, easing_full, count_from, count_to, no_count, count_full, direction_from, direction_to, no_direction, direction_full, fill_from, fill_to, no_fill, fill_full, play_from, play_to, no_play, play_full, name_from, name_to}
 
 pub step_from : (before : List Part) (w : List Word) (part : Part) → IsPart w part → MayTake before w part → take_word (held before) w ≡ Some (put part (held before))
 unfolding take_word take_keyword

@@ -13,7 +13,7 @@ use Rattle.css_values.specs.Quantities.{count_of, duration_of, is_nothing, lengt
 use Rattle.css_values.specs.ValueGrammar.{longhand_of, only_if}
 use Rattle.css_values.specs.Words.{Word, is_lone}
 use Rattle.css_value_laws.specs.SpelledEasings.{SpellsEasing, PastEasing}
-use Rattle.css_value_laws.specs.SpelledLonghands.{SpellsLonghand, PastLonghand}
+use Rattle.css_declaration_laws.specs.SpelledLonghands.{SpellsLonghand, PastLonghand}
 use Rattle.css_value_laws.specs.SpelledQuantities.{SpellsTime, PastTime, SpellsDuration, SpellsCount, PastCount}
 use Rattle.css_value_laws.specs.SpelledWords.{SpellsKeyword, SpellsName}
 use Rattle.css_value_laws.specs.ValueLaws.{NonePast}

@@ -14,14 +14,14 @@ use Rattle.css_value_laws.specs.SpelledLists.{IsMarked}
 use Rattle.css_value_laws.specs.SpelledNumbers.{word}
 use Rattle.css_value_laws.specs.SpelledQuantities.{SpellsTime, PastTime, SpellsDuration, SpellsCount, PastCount}
 use Rattle.css_value_laws.specs.SpelledQuantities.SpellsCount.{endless, times}
-use Rattle.css_value_laws.specs.SpelledShorthand.{Part, IsPart, Takes, is_past, SpellsItem, PastItem}
-use Rattle.css_value_laws.specs.SpelledShorthand.Part.{duration, delay, easing, count, direction, fill, play, name}
-use Rattle.css_value_laws.specs.SpelledShorthand.Takes.{all, next}
+use Rattle.css_declaration_laws.specs.SpelledShorthand.{Part, IsPart, Takes, is_past, SpellsItem, PastItem}
+use Rattle.css_declaration_laws.specs.SpelledShorthand.Part.{duration, delay, easing, count, direction, fill, play, name}
+use Rattle.css_declaration_laws.specs.SpelledShorthand.Takes.{all, next}
 use Rattle.css_value_laws.proofs.ClosingLemmas.{count_closes, duration_closes, easing_closes, keyword_closes, name_closes, time_closes}
 use Rattle.css_value_laws.proofs.ListLemmas.{Closes, closes, mark_closes}
 use Rattle.css_value_laws.proofs.Readings.{Reads, reads_bad, reads_ok, reads_over, reads_of, reads_if}
-use Rattle.css_value_laws.proofs.SlotLemmas.{held, has_over, made, made_is}
-use Rattle.css_value_laws.proofs.StepLemmas.{step_from, step_to}
+use Rattle.css_declaration_laws.proofs.SlotLemmas.{held, has_over, made, made_is}
+use Rattle.css_declaration_laws.proofs.StepLemmas.{step_from, step_to}
 
 -- the words are one group
 abbrev wraps : Bool → List Word → Bool

@@ -18,13 +18,13 @@ use Rattle.css_values.specs.Words.{Word}
 use Rattle.css_value_laws.specs.SpelledEasings.{SpellsEasing, PastEasing}
 use Rattle.css_value_laws.specs.SpelledLists.{IsMarked}
 use Rattle.css_value_laws.specs.SpelledQuantities.{SpellsTime, PastTime, SpellsDuration, SpellsCount, PastCount}
-use Rattle.css_value_laws.specs.SpelledShorthand.{Part, is_taken, IsPart, MayTake}
-use Rattle.css_value_laws.specs.SpelledShorthand.Part.{duration, delay, easing, count, direction, fill, play, name}
-use Rattle.css_value_laws.specs.SpelledShorthand.Slot.{duration_slot, delay_slot, easing_slot, count_slot, direction_slot, fill_slot, play_slot, name_slot}
+use Rattle.css_declaration_laws.specs.SpelledShorthand.{Part, is_taken, IsPart, MayTake}
+use Rattle.css_declaration_laws.specs.SpelledShorthand.Part.{duration, delay, easing, count, direction, fill, play, name}
+use Rattle.css_declaration_laws.specs.SpelledShorthand.Slot.{duration_slot, delay_slot, easing_slot, count_slot, direction_slot, fill_slot, play_slot, name_slot}
 use Rattle.css_value_laws.specs.SpelledWords.{SpellsKeyword, SpellsName}
 use Rattle.css_value_laws.specs.ValueLaws.{NonePast}
 use Rattle.css_value_laws.proofs.Readings.{Reads}
-use Rattle.css_value_laws.proofs.SlotLemmas.{put, held, has_duration, has_delay, has_easing, has_count, has_direction, has_fill, has_play, has_name}
+use Rattle.css_declaration_laws.proofs.SlotLemmas.{put, held, has_duration, has_delay, has_easing, has_count, has_direction, has_fill, has_play, has_name}
 use Rattle.css_value_laws.proofs.EasingReadings.{easing_reads}
 use Rattle.css_value_laws.proofs.QuantityLemmas.{count_reads, duration_reads, time_reads}
 use Rattle.css_value_laws.proofs.TableLemmas.{directions_differ, fills_differ, plays_differ}

@@ -3,8 +3,8 @@ ghost use Rattle.std.specs.Prelude.{ℕ, List, Some, ◌≡◌, ◌↔◌};
 ghost use Rattle.css_values.specs.declared.types.Property.{Property};
 ghost use Rattle.css_values.specs.Keywords.{lookup, property_names};
 ghost use Rattle.css_values.specs.ValueGrammar.{declaration_of, longhand_of};
-ghost use Rattle.css_value_laws.specs.SpelledLonghands.{PastLonghand, SpellsLonghand};
-ghost use Rattle.css_value_laws.specs.Spelling.{Spells, SpellsPast};
+ghost use Rattle.css_declaration_laws.specs.SpelledLonghands.{PastLonghand, SpellsLonghand};
+ghost use Rattle.css_declaration_laws.specs.Spelling.{Spells, SpellsPast};
 ghost use Rattle.css_value_laws.specs.SpelledWords.{IsEntry};
 ghost use Rattle.css_value_laws.specs.ValueLaws.{Agrees};
 

@@ -7,12 +7,12 @@ use Rattle.css_values.specs.ShorthandGrammar.{item_of}
 use Rattle.css_values.specs.ValueGrammar.{columns, declaration_of, longhand_of}
 use Rattle.css_values.specs.Words.{Word, mapped}
 use Rattle.css_value_laws.specs.SpelledLists.{IsPastList}
-use Rattle.css_value_laws.specs.SpelledLonghands.{PastLonghand}
-use Rattle.css_value_laws.specs.SpelledShorthand.{PastItem, SpellsItem}
-use Rattle.css_value_laws.specs.Spelling.{Spells, SpellsOne, SpellsPast, SpellsShorthand}
-use Rattle.css_value_laws.proofs.ItemLemmas.{item_closes, item_reads}
+use Rattle.css_declaration_laws.specs.SpelledLonghands.{PastLonghand}
+use Rattle.css_declaration_laws.specs.SpelledShorthand.{PastItem, SpellsItem}
+use Rattle.css_declaration_laws.specs.Spelling.{Spells, SpellsOne, SpellsPast, SpellsShorthand}
+use Rattle.css_declaration_laws.proofs.ItemLemmas.{item_closes, item_reads}
 use Rattle.css_value_laws.proofs.ListLemmas.{list_reads}
-use Rattle.css_value_laws.proofs.LonghandLemmas.{longhand_reads}
+use Rattle.css_declaration_laws.proofs.LonghandLemmas.{longhand_reads}
 use Rattle.css_value_laws.proofs.Readings.{Reads, reads_like, reads_mapped}
 
 one_reads : (property : Property) (words : List Word) → Reads (mapped (λ longhand. longhand ∷ []) (longhand_of property words)) (SpellsOne property words) (PastLonghand property words)

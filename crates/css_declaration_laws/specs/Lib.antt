@@ -1,0 +1,3 @@
+pub mod SpelledLonghands
+pub mod SpelledShorthand
+pub mod Spelling
