@@ -1,15 +1,18 @@
 -- Declarations that are read are those that are spelled.
-use Rattle.std.proofs.Common.{List, [], ◌∷◌}
+use Rattle.std.proofs.Common.{Result, Ok, Err, List, [], ◌∷◌}
+use Rattle.page_model.specs.declared.rule.Longhand.{Longhand}
+use Rattle.css_values.specs.declared.fault.ValueFault.{ValueFault}
+use Rattle.css_values.specs.declared.fault.ValueFault.TheVariants.{BadValue, OverLimit, NoMemory}
 use Rattle.css_values.specs.declared.types.Property.{Property}
 use Rattle.css_values.specs.declared.types.Property.TheVariants.{Animation}
-use Rattle.css_values.specs.Lists.{list_of}
+use Rattle.css_values.specs.Lists.{Gives, list_of}
 use Rattle.css_values.specs.ShorthandGrammar.{item_of}
 use Rattle.css_values.specs.ValueGrammar.{columns, declaration_of, longhand_of}
 use Rattle.css_values.specs.Words.{Word, mapped}
 use Rattle.css_value_laws.specs.SpelledLists.{IsPastList}
 use Rattle.css_declaration_laws.specs.SpelledLonghands.{PastLonghand}
 use Rattle.css_declaration_laws.specs.SpelledShorthand.{PastItem, SpellsItem}
-use Rattle.css_declaration_laws.specs.Spelling.{Spells, SpellsOne, SpellsPast, SpellsShorthand}
+use Rattle.css_declaration_laws.specs.Spelling.{Answers, Spells, SpellsOne, SpellsPast, SpellsShorthand}
 use Rattle.css_declaration_laws.proofs.ItemLemmas.{item_closes, item_reads}
 use Rattle.css_value_laws.proofs.ListLemmas.{list_reads}
 use Rattle.css_declaration_laws.proofs.LonghandLemmas.{longhand_reads}
@@ -35,3 +38,14 @@ pub declaration_reads : (property : Property) (words : List Word) → Reads (dec
 unfolding declaration_of
 declaration_reads Animation words = shorthand_reads words
 declaration_reads other words = one_reads other words
+
+-- what a call answers that gives what is read
+pub answers_are : (property : Property) (words : List Word) (result : Result (List Longhand) ValueFault) → Gives result (declaration_of property words)
+    → Answers property words result
+answers_are property words (Ok all) gives = (declaration_reads property words).ok_to all gives
+answers_are property words (Err OverLimit) gives = (declaration_reads property words).past_to gives
+answers_are property words (Err BadValue) gives = record {
+  no_value = λ all s. let e = (declaration_reads property words).ok_from all s in cc;
+  no_past = λ p. let e = (declaration_reads property words).past_from p in cc;
+}
+answers_are property words (Err NoMemory) gives = tt

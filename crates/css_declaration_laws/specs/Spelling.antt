@@ -1,7 +1,9 @@
 -- What the words of a declaration's value spell, and whether they are past a limit: CSS Cascading Level 3 has what a
 -- shorthand sets.
-use Rattle.std.specs.Prelude.{◌≡◌, List, [], ◌∷◌}
+use Rattle.std.specs.Prelude.{◌≡◌, List, [], ◌∷◌, Result, Ok, Err}
 use Rattle.page_model.specs.declared.rule.Longhand.{Longhand}
+use Rattle.css_values.specs.declared.fault.ValueFault.{ValueFault}
+use Rattle.css_values.specs.declared.fault.ValueFault.TheVariants.{BadValue, OverLimit, NoMemory}
 use Rattle.css_values.specs.declared.shorthand.Shorthand.{Shorthand}
 use Rattle.css_values.specs.declared.types.Property.{Property}
 use Rattle.css_values.specs.declared.types.Property.TheVariants.{Animation}
@@ -32,3 +34,15 @@ Spells other words all = SpellsOne other words all
 abbrev pub SpellsPast : Property → List Word → Type 0
 SpellsPast Animation words = IsPastList SpellsItem PastItem words
 SpellsPast other words = PastLonghand other words
+
+-- the words spell no value
+pub record SpellsNone (property : Property) (words : List Word) : Type 0 where
+  pub no_value : (all : List Longhand) → Spells property words all → ⊥
+  pub no_past : SpellsPast property words → ⊥
+
+-- the answer is what the words spell, unless memory was refused
+abbrev pub Answers : Property → List Word → Result (List Longhand) ValueFault → Type 0
+Answers property words (Ok all) = Spells property words all
+Answers property words (Err OverLimit) = SpellsPast property words
+Answers property words (Err BadValue) = SpellsNone property words
+Answers property words (Err NoMemory) = Unit {0}

@@ -12,5 +12,7 @@
 mod properties;
 mod shorthand;
 
-pub use properties::{declarations_are_spelled, longhands_are_spelled, properties_are_named};
+pub use properties::{
+    answers_are_spelled, declarations_are_spelled, longhands_are_spelled, properties_are_named,
+};
 pub use shorthand::items_are_spelled;

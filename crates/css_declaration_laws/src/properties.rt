@@ -1,10 +1,14 @@
 // Properties.
-ghost use Rattle.std.specs.Prelude.{ℕ, List, Some, ◌≡◌, ◌↔◌};
+ghost use Rattle.std.specs.Prelude.{ℕ, List, Result as Outcome, Some, ◌≡◌, ◌↔◌};
+ghost use Rattle.page_model.specs.declared.rule.Longhand.{Longhand as Longhands};
+ghost use Rattle.css_values.specs.declared.fault.ValueFault.{ValueFault};
 ghost use Rattle.css_values.specs.declared.types.Property.{Property};
 ghost use Rattle.css_values.specs.Keywords.{lookup, property_names};
+ghost use Rattle.css_values.specs.Lists.{Gives};
+ghost use Rattle.css_values.specs.Words.{Word};
 ghost use Rattle.css_values.specs.ValueGrammar.{declaration_of, longhand_of};
 ghost use Rattle.css_declaration_laws.specs.SpelledLonghands.{PastLonghand, SpellsLonghand};
-ghost use Rattle.css_declaration_laws.specs.Spelling.{Spells, SpellsPast};
+ghost use Rattle.css_declaration_laws.specs.Spelling.{Answers, Spells, SpellsPast};
 ghost use Rattle.css_value_laws.specs.SpelledWords.{IsEntry};
 ghost use Rattle.css_value_laws.specs.ValueLaws.{Agrees};
 
@@ -22,4 +26,10 @@ pub fn longhands_are_spelled()
 /// what the words spell.
 pub fn declarations_are_spelled()
     ensures { (property : Property) → Agrees (declaration_of property) (Spells property) (SpellsPast property) }
+{}
+
+/// What a call answers by the clause of `declaration` of `css_values` is what the words spell, unless memory was refused.
+pub fn answers_are_spelled()
+    ensures { (property : Property) (words : List Word) (result : Outcome (List Longhands) ValueFault)
+        → Gives result (declaration_of property words) → Answers property words result }
 {}
