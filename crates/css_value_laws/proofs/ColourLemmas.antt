@@ -7,12 +7,12 @@ use Rattle.text_scan.specs.declared.token.CssKind.{CssKind}
 use Rattle.text_scan.specs.declared.token.CssKind.TheVariants.{Comma, Function, Hash, Ident, Number, RightParen}
 use Rattle.css_values.specs.Colours.{pair, channels, hash_colour, function_at, whole_at, channel_at, channel_and_comma, rgb_of, colour_of}
 use Rattle.css_values.specs.Keywords.{lookup, colour, colour_names}
-use Rattle.css_values.specs.Words.{Word, lone, behind, when_hash, when_ident, is_comma, is_close, or_else}
+use Rattle.css_values.specs.Words.{Word, lone, behind, when_hash, when_ident, is_close, or_else}
 use Rattle.css_value_laws.specs.SpelledColours.{IsPair, IsShortHash, IsLongHash, IsRgb, SpellsColour}
 use Rattle.css_value_laws.specs.SpelledNumbers.{word}
 use Rattle.css_value_laws.specs.SpelledWords.{IsWhole, SpellsKeyword}
 use Rattle.css_value_laws.specs.ValueLaws.{NonePast}
-use Rattle.css_value_laws.proofs.FrontLemmas.{Mark, WholeFront, called, call_stands, comma_front, comma_stands, close_front, close_stands, whole_front, whole_stands, end_is}
+use Rattle.css_value_laws.proofs.FrontLemmas.{comma_then, Mark, WholeFront, called, call_stands, comma_stands, close_front, close_stands, whole_front, whole_stands, end_is}
 use Rattle.css_value_laws.proofs.KeywordLemmas.{then_to, lone_hash_is, lone_ident_is, hash_alone, ident_alone, same_kind}
 use Rattle.css_value_laws.proofs.Readings.{Reads, reads_bad, reads_ok, reads_of}
 use Rattle.css_value_laws.proofs.TableLemmas.{colours_differ}
@@ -150,11 +150,9 @@ comma_channel : (words : List Word) (f : ℕ × List Word) → channel_and_comma
     → (n : ℕ) × (middle : List Word) × (WholeFront words n middle) × (Mark Comma middle f.1) × (min n 255 ≡ f.0)
 unfolding channel_and_comma
 comma_channel words f e =
-    let outer = then_to (λ g. option_and_then (λ rest. Some (g.0, rest)) (behind is_comma g.1)) (channel_at words) f e in
-    let inner = then_to (λ rest. Some (outer.x.0, rest)) (behind is_comma outer.x.1) f outer.second in
-    let front = channel_front words outer.x outer.first in
-    let same = some_same inner.second in
-    (front.0, outer.x.1, front.1, comma_front outer.x.1 f.1 (inner.first ∙ ap (λ p. Some p.1) same), front.2 ∙ ap (λ p. p.0) same)
+    let both = comma_then (channel_at words) f e in
+    let front = channel_front words (f.0, both.middle) both.first in
+    (front.0, both.middle, front.1, both.comma, front.2)
 
 comma_stands_behind : (bytes comma : List ℕ) (n : ℕ) (rest : List Word) → IsWhole bytes n
     → channel_and_comma (word Number bytes ∷ (word Comma comma ∷ rest)) ≡ Some (min n 255, rest)

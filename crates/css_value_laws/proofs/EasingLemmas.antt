@@ -14,7 +14,7 @@ use Rattle.css_value_laws.specs.SpelledEasings.{IsNamedJump, IsJump, IsSteps, Is
 use Rattle.css_value_laws.specs.SpelledNumbers.{Sign, word, with_sign, IsNumber}
 use Rattle.css_value_laws.specs.SpelledNumbers.Sign.{bare, plus, minus}
 use Rattle.css_value_laws.specs.SpelledWords.{IsWhole}
-use Rattle.css_value_laws.proofs.FrontLemmas.{Mark, called, call_stands, comma_front, comma_stands, close_front, close_stands, whole_front, whole_stands, end_is, number_front, number_stands, ident_front, ident_stands}
+use Rattle.css_value_laws.proofs.FrontLemmas.{front_then, comma_then, Mark, called, call_stands, comma_front, comma_stands, close_front, close_stands, whole_front, whole_stands, end_is, number_front, number_stands, ident_front, ident_stands}
 use Rattle.css_value_laws.proofs.KeywordLemmas.{then_to}
 use Rattle.css_value_laws.proofs.NumberLemmas.{made, is_minus, sign_of, number_from, number_to}
 use Rattle.css_value_laws.proofs.SizeLemmas.{size_to, size_from}
@@ -143,25 +143,13 @@ thousandths_to bytes n t is e = elim (cases_Bool (length n.unit == 0)) [
 thousandths_front : (words : List Word) (f : (Bool × ℕ) × List Word) → thousandths_at words ≡ Some f → ThousandthsFront words (signed_int f.0.0 f.0.1) f.1
 unfolding thousandths_at number_at
 thousandths_front words f e =
-    let outer = then_to (λ g. option_and_then (λ t. Some (t, g.1)) (thousandths_of g.0)) _ f e in
-    let inner = then_to (λ g. option_and_then (λ n. Some (n, g.1)) (number_of g.0)) (front_of when_number words) outer.x outer.first in
-    let number = then_to (λ n. Some (n, inner.x.1)) (number_of inner.x.0) outer.x inner.second in
-    let value = then_to (λ t. Some (t, outer.x.1)) (thousandths_of outer.x.0) f outer.second in
-    let split = number_front words inner.x inner.first in
-    let p = some_pair number.second in
-    let q = some_point value.second in
-    let read : number_of inner.x.0 ≡ Some outer.x.0 = number.first ∙ ap (λ (k : Numeral × List Word). Some k.0) p in
-    let of : thousandths_of outer.x.0 ≡ Some f.0 = value.first ∙ ap (λ (k : (Bool × ℕ) × List Word). Some k.0) q in
+    let outer = front_then thousandths_of (number_at words) f e in
+    let inner = front_then number_of (front_of when_number words) (outer.x, f.1) outer.first in
     record {
-      bytes = inner.x.0;
-      split = split ∙ ap (λ t. word Number inner.x.0 ∷ t) (ap (λ k. k.1) p ∙ ap (λ k. k.1) q);
-      is = thousandths_to inner.x.0 outer.x.0 f.0 read of;
-    } where
-      some_pair : {p q : Numeral × List Word} → Some p ≡ Some q → p ≡ q
-      some_pair e = cc
-
-      some_point : {p q : (Bool × ℕ) × List Word} → Some p ≡ Some q → p ≡ q
-      some_point e = cc
+      bytes = inner.x;
+      split = number_front words (inner.x, f.1) inner.first;
+      is = thousandths_to inner.x outer.x f.0 inner.second outer.second;
+    }
 
 thousandths_stands : (bytes : List ℕ) (v : ℤ) (rest : List Word) (is : IsThousandths bytes v) → thousandths_at (word Number bytes ∷ rest) ≡ Some ((is_minus is.sign, is.size), rest)
 unfolding thousandths_at number_at thousandths_of
@@ -181,16 +169,8 @@ comma_point : (words : List Word) (f : (Bool × ℕ) × List Word) → point_and
     → (middle : List Word) × (ThousandthsFront words (signed_int f.0.0 f.0.1) middle) × (Mark Comma middle f.1)
 unfolding point_and_comma
 comma_point words f e =
-    let outer = then_to (λ g. option_and_then (λ rest. Some (g.0, rest)) (behind is_comma g.1)) (thousandths_at words) f e in
-    let inner = then_to (λ rest. Some (outer.x.0, rest)) (behind is_comma outer.x.1) f outer.second in
-    let front = thousandths_front words outer.x outer.first in
-    let same = some_point inner.second in (
-      outer.x.1,
-      subst (λ (t : Bool × ℕ). ThousandthsFront words (signed_int t.0 t.1) outer.x.1) (ap (λ (p : (Bool × ℕ) × List Word). p.0) same) front,
-      comma_front outer.x.1 f.1 (inner.first ∙ ap (λ (p : (Bool × ℕ) × List Word). Some p.1) same),
-    ) where
-      some_point : {p q : (Bool × ℕ) × List Word} → Some p ≡ Some q → p ≡ q
-      some_point e = cc
+    let both = comma_then (thousandths_at words) f e in
+    (both.middle, thousandths_front words (f.0, both.middle) both.first, both.comma)
 
 comma_point_stands : (bytes comma : List ℕ) (v : ℤ) (rest : List Word) (is : IsThousandths bytes v)
     → point_and_comma (word Number bytes ∷ (word Comma comma ∷ rest)) ≡ Some ((is_minus is.sign, is.size), rest)

@@ -5,7 +5,7 @@ use Rattle.text_scan.specs.declared.token.CssKind.{CssKind}
 use Rattle.text_scan.specs.declared.token.CssKind.TheVariants.{Ident, Function, Number, Comma, RightParen}
 use Rattle.css_values.specs.Colours.{function_at, whole_at, ended}
 use Rattle.css_values.specs.Keywords.{is_keyword}
-use Rattle.css_values.specs.Numerals.{Numeral, number_of, number_at, whole_of}
+use Rattle.css_values.specs.Numerals.{number_of, number_at, whole_of}
 use Rattle.css_values.specs.Words.{Word, front_of, behind, when_ident, when_number, when_function, is_comma, is_close}
 use Rattle.css_value_laws.specs.SpelledNumbers.{word}
 use Rattle.css_value_laws.specs.SpelledWords.{IsWhole}
@@ -120,27 +120,55 @@ pub record WholeFront (words : List Word) (n : ℕ) (rest : List Word) : Type 0 
   pub split : words ≡ word Number bytes ∷ rest
   pub is : IsWhole bytes n
 
+some_same : {A : Type 0} {x y : A} → Some x ≡ Some y → x ≡ y
+some_same e = cc
+
+-- what stands at the front, and what it is taken for
+pub record FrontThen {A B : Type 0} (g : A → Option B) (o : Option (A × List Word)) (y : B × List Word) : Type 0 where
+  pub x : A
+  pub first : o ≡ Some (x, y.1)
+  pub second : g x ≡ Some y.0
+
+pub front_then : {A B : Type 0} (g : A → Option B) (o : Option (A × List Word)) (y : B × List Word)
+    → option_and_then (λ f. option_and_then (λ n. Some (n, f.1)) (g f.0)) o ≡ Some y → FrontThen g o y
+front_then g None y e = absurd (cc)
+front_then {A} {B} g (Some p) y e = by (g p.0) refl e where
+  by : (r : Option B) → g p.0 ≡ r → option_and_then (λ n. Some (n, p.1)) r ≡ Some y → FrontThen g (Some p) y
+  by None is e = absurd (cc)
+  by (Some n) is e =
+      let same : (n, p.1) ≡ y = some_same e in
+      record { x = p.0; first = ap (λ (q : B × List Word). Some (p.0, q.1)) same; second = is ∙ ap (λ (q : B × List Word). Some q.0) same }
+
+-- the same with a comma behind it
+pub record CommaThen {A : Type 0} (o : Option (A × List Word)) (y : A × List Word) : Type 0 where
+  pub middle : List Word
+  pub first : o ≡ Some (y.0, middle)
+  pub comma : Mark Comma middle y.1
+
+pub comma_then : {A : Type 0} (o : Option (A × List Word)) (y : A × List Word)
+    → option_and_then (λ f. option_and_then (λ rest. Some (f.0, rest)) (behind is_comma f.1)) o ≡ Some y → CommaThen o y
+comma_then None y e = absurd (cc)
+comma_then {A} (Some p) y e = by (behind is_comma p.1) refl e where
+  by : (r : Option (List Word)) → behind is_comma p.1 ≡ r → option_and_then (λ rest. Some (p.0, rest)) r ≡ Some y → CommaThen (Some p) y
+  by None is e = absurd (cc)
+  by (Some rest) is e =
+      let same : (p.0, rest) ≡ y = some_same e in
+      record {
+        middle = p.1;
+        first = ap (λ (q : A × List Word). Some (q.0, p.1)) same;
+        comma = comma_front p.1 y.1 (is ∙ ap (λ (q : A × List Word). Some q.1) same);
+      }
+
 pub whole_front : (words : List Word) (f : ℕ × List Word) → whole_at words ≡ Some f → WholeFront words f.0 f.1
 unfolding whole_at number_at
 whole_front words f e =
-    let outer = then_to (λ g. option_and_then (λ n. Some (n, g.1)) (whole_of g.0)) _ f e in
-    let inner = then_to (λ g. option_and_then (λ n. Some (n, g.1)) (number_of g.0)) (front_of when_number words) outer.x outer.first in
-    let number = then_to (λ n. Some (n, inner.x.1)) (number_of inner.x.0) outer.x inner.second in
-    let whole = then_to (λ n. Some (n, outer.x.1)) (whole_of outer.x.0) f outer.second in
-    let split = number_front words inner.x inner.first in
-    let value : option_and_then whole_of (number_of inner.x.0) ≡ Some whole.x = rw number.first (rw (ap (λ p. p.0) (some_pair number.second)) whole.first) in
-    let last : inner.x.1 ≡ f.1 = ap (λ p. p.1) (some_pair number.second) ∙ ap (λ p. p.1) (some_whole whole.second) in
-    let first : whole.x ≡ f.0 = ap (λ p. p.0) (some_whole whole.second) in
+    let outer = front_then whole_of (number_at words) f e in
+    let inner = front_then number_of (front_of when_number words) (outer.x, f.1) outer.first in
     record {
-      bytes = inner.x.0;
-      split = split ∙ ap (λ t. word Number inner.x.0 ∷ t) last;
-      is = subst (λ k. IsWhole inner.x.0 k) first (whole_to inner.x.0 whole.x value);
-    } where
-      some_pair : {p q : Numeral × List Word} → Some p ≡ Some q → p ≡ q
-      some_pair e = cc
-
-      some_whole : {p q : ℕ × List Word} → Some p ≡ Some q → p ≡ q
-      some_whole e = cc
+      bytes = inner.x;
+      split = number_front words (inner.x, f.1) inner.first;
+      is = whole_to inner.x f.0 (rw inner.second outer.second);
+    }
 
 pub whole_stands : (bytes : List ℕ) (n : ℕ) (rest : List Word) → IsWhole bytes n → whole_at (word Number bytes ∷ rest) ≡ Some (n, rest)
 unfolding whole_at number_at
