@@ -1,0 +1,5 @@
+pub mod NameTable
+pub mod ReadySheet
+pub mod SheetGrammar
+pub mod SheetState
+pub mod SheetText

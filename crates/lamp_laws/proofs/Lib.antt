@@ -1,0 +1,11 @@
+mod ColourLemmas
+mod DeclarationLemmas
+mod GrammarLemmas
+mod LampPieces
+mod NumberLemmas
+mod Pieces
+mod SceneLemmas
+mod SheetLemmas
+mod ShorthandLemmas
+mod TokenLemmas
+mod WinnerLemmas

@@ -1,0 +1,2 @@
+pub mod LampScene
+pub mod LampSheet
