@@ -11,7 +11,8 @@ use Rattle.css_declarations.specs.declared.fault.SheetFault.{SheetFault}
 use Rattle.css_declarations.specs.declared.fault.SheetFault.TheVariants.{BadSheet, UnknownProperty, BadValue, BadKeyframes, OverLimit, NoMemory}
 use Rattle.css_declarations.specs.InlineText.{SpellsInline, IsInlineFault, IsInline, IsInlineRead, part_of}
 use Rattle.css_declarations.specs.DeclarationGrammar.{AreDeclarations, is_closed}
-use Rattle.css_declarations.specs.DeclarationFaults.{AreAdded, DeclarationsFault, IsTold}
+use Rattle.css_declarations.specs.DeclarationFaults.{AreAdded, DeclarationFault, DeclarationsFault, IsTold}
+use Rattle.css_declarations.specs.DeclarationFaults.DeclarationFault.{no_name, unknown, not_animatable, no_colon, bad_value, over_limit, bang_in_block, not_important, not_ended}
 use Rattle.css_declarations.specs.DeclarationReading.{Tells}
 use Rattle.std.specs.Prelude.{IfOk}
 use Rattle.css_declarations.specs.ReadyDecls.{AreReadyDecls}
@@ -107,3 +108,22 @@ spelled_ready text part decls is =
 pub inline_ready : (text : List ℕ) (part : Place) (result : Result (List Decl) SheetFault) → IsInlineRead text part result → IfOk result AreReadyDecls
 inline_ready text part (Ok decls) is = spelled_ready text part decls is
 inline_ready text part (Err fault) is = tt
+
+-- an inline style has no keyframes that could be bad
+no_keyframes_here : (text : List ℕ) (end : ℕ) (tokens : List CssToken) (fault : SheetFault) → DeclarationFault Inline text end tokens fault → (place : ℕ) → fault ≡ BadKeyframes place → ⊥
+no_keyframes_here text end tokens fault (no_name _ is semi unclosed) place e = cc
+no_keyframes_here text end tokens fault (unknown name rest is none) place e = cc
+no_keyframes_here text end tokens fault (not_animatable name rest property is some not) place e = cc
+no_keyframes_here text end tokens fault (no_colon name rest property is colon) place e = cc
+no_keyframes_here text end tokens fault (bad_value name colon behind rest v) place e = cc
+no_keyframes_here text end tokens fault (over_limit name colon behind rest v) place e = cc
+no_keyframes_here text end tokens fault (bang_in_block _ longhands bang rest v is block) place e = cc
+no_keyframes_here text end tokens fault (not_important _ longhands bang rest v is block not) place e = cc
+no_keyframes_here text end tokens fault (not_ended _ behind longhands important rest v mark not) place e = cc
+
+no_keyframes_told : (text : List ℕ) (part : Place) (place : ℕ) → IsInlineFault text part (BadKeyframes place) → ⊥
+no_keyframes_told text part place (inl bad) = let e = bad.fault_is in cc
+no_keyframes_told text part place (inr first) = no_keyframes_here text part.to first.first.rest (BadKeyframes place) first.first.here place refl
+
+pub no_keyframes : (text : List ℕ) (part : Place) (result : Result (List Decl) SheetFault) → IsInlineRead text part result → (place : ℕ) → result ≡ Err (BadKeyframes place) → ⊥
+no_keyframes text part result is place e = no_keyframes_told text part place (subst (IsInlineRead text part) e is)

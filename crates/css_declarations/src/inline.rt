@@ -1,8 +1,9 @@
 // Inline styles.
-ghost use Rattle.std.specs.Prelude.{◌≡◌, ◌≤◌, IfOk, length, List as Items, Result as Outcome};
+ghost use Rattle.std.specs.Prelude.{ℕ, Err, ◌≡◌, ◌≤◌, IfOk, length, List as Items, Result as Outcome};
 ghost use Rattle.page_model.specs.declared.rule.Decl.{Decl as Declared};
 ghost use Rattle.text_scan.specs.CssTokens.{AreTokens};
 ghost use Rattle.css_declarations.specs.declared.fault.SheetFault.{SheetFault as Fault};
+ghost use Rattle.css_declarations.specs.declared.fault.SheetFault.TheVariants.{BadKeyframes};
 ghost use Rattle.css_declarations.specs.DeclarationReading.{Tells};
 ghost use Rattle.css_declarations.specs.ReadyDecls.{AreReadyDecls};
 ghost use Rattle.css_declarations.specs.InlineText.{IsInline, IsInlineRead, part_of};
@@ -58,6 +59,7 @@ pub fn read_inline(alloc: Global, text: &[u8], part: Place) -> Result<List<Decl>
     ensures told { (outcome : Outcome (Items Declared) Fault) → IsInline text.now part outcome → Tells result outcome }
     // What is given is as the cascade needs it.
     ensures ready { IfOk result AreReadyDecls }
+    ensures no_keyframes { (place : ℕ) → result ≡ Err (BadKeyframes place) → ⊥ }
 {
     read(alloc, text, part)
 }

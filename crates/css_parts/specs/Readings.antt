@@ -77,11 +77,6 @@ abbrev pub Declares : Context → List ℕ → ℕ → List CssToken → Read (L
 Declares context text end tokens (Ok read) = AreDeclarations context text tokens read.0 read.1
 Declares context text end tokens (Err fault) = DeclarationsFault context text end tokens fault
 
--- what there is to be read is found; nothing is said of want of memory
-abbrev pub Finds : {A : Type 0} → (Read A → Type 0) → Read A → Type 0
-Finds Is (Ok read) = Is (Ok read)
-Finds Is (Err fault) = IsTold (λ f. Is (Err f)) fault
-
 -- it is put into something
 pub record IsPut {A S : Type 0} (with : S → A → S) (Is : Read A → Type 0) (old new : S) (rest : List CssToken) : Type 0 where
   pub item : A
