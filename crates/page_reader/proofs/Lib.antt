@@ -3,3 +3,5 @@ pub mod GrammarLemmas
 pub mod ElementLemmas
 pub mod PageLemmas
 pub mod NameLemmas
+pub mod PageBody
+pub mod PagePlaces

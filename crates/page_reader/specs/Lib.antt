@@ -4,3 +4,4 @@ pub mod PageNames
 pub mod PageReading
 pub mod PageSymbols
 pub mod PageText
+pub mod PageWhole

@@ -26,5 +26,5 @@ mod tag_name;
 mod tests;
 
 pub use fault::PageFault;
-pub use laws::one_page_reading;
+pub use laws::{one_page_reading, page_is_whole};
 pub use reading::read_page;
