@@ -1,0 +1,5 @@
+pub mod LoadLemmas
+pub mod OneLoading
+pub mod OneOrder
+pub mod PageReady
+pub mod StyleLemmas
