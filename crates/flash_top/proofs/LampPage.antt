@@ -3,7 +3,8 @@ use Rattle.std.proofs.Common.{◌≡◌, ℕ, suc, ◌+◌, ◌/◌, ◌%◌, �
 use Rattle.std.specs.List.{list_all}
 use Rattle.std.specs.Fmt.{decimal, digit_glyph}
 use Rattle.std.specs.Int.{IsInRange}
-use Rattle.std.specs.Prelude.{false, length, get_or}
+use Rattle.std.specs.Prelude.{false, length, get_or, slice_get, Some, zero}
+use Rattle.std.proofs.lemmas.Option.{same_Some}
 use Rattle.std.proofs.lemmas.Bool.{and_from, and_parts}
 use Rattle.std.proofs.lemmas.Bool.Decides.{nat_tests}
 use Rattle.std.proofs.lemmas.Fmt.{digits_decimal, length-decimal-le}
@@ -11,7 +12,17 @@ use Rattle.std.proofs.lemmas.Str.Parse.{digit_at}
 use Rattle.grey_lamp.specs.Page.{IsLampPage, colour_text, hex_pair, lamp_style}
 use Rattle.grey_lamp.specs.declared.lamp.Lamp.{Lamp}
 use Rattle.page_reader.specs.PageText.{IsRead}
-use Rattle.flash_top.specs.Refusals.{IsLoaded, page_limit}
+use Rattle.page_model.specs.declared.element.Element.{Element}
+use Rattle.page_model.specs.declared.rule.Decl.{Decl}
+use Rattle.css_declarations.specs.InlineText.{SpellsInline}
+use Rattle.frame_state.specs.Scenes.{is_animated}
+use Rattle.lamp_laws.specs.LampScene.{lamp_scene, lamp_sources}
+use Rattle.lamp_laws.specs.LampSheet.{lamp_sheet}
+use Rattle.lamp_laws.proofs.SceneLemmas.{has_scene, nothing_declared}
+use Rattle.lamp_laws.proofs.SheetLemmas.{lamp_spells}
+use Rattle.page_loader.specs.Loading.{SpellScene}
+use Rattle.flash_top.specs.LampText.{plain_body}
+use Rattle.flash_top.specs.Refusals.{IsLoadedAs, page_limit}
 use Rattle.flash_top.proofs.Decimals.{own}
 use Rattle.flash_top.proofs.StyledPage.{all_both, is_plain, styled_is_read, styled_length, styled_page}
 
@@ -99,5 +110,31 @@ lamp_is_short bytes lamp is =
     let whole = styled_length (lamp_style lamp) in
     omega (arith, long, style, whole)
 
-pub lamp_is_loaded : (bytes : List ℕ) (lamp : Lamp) → IsLampPage bytes lamp → IsLoaded bytes
-lamp_is_loaded bytes lamp is = record { short = lamp_is_short bytes lamp is; page = styled_page (lamp_style lamp); read = lamp_is_read bytes lamp is }
+-- it has the lamp's scene
+no_style_attribute : (bytes : List ℕ) (lamp : Lamp) (number : ℕ) (element : Element) (decls : List Decl) → slice_get (plain_body ∷ []) number ≡ Some element
+    → slice_get ([] ∷ []) number ≡ Some decls → SpellsInline bytes element.style decls
+no_style_attribute bytes lamp zero element decls here own =
+    subst (SpellsInline bytes element.style) (same_Some [] decls own)
+    (subst (λ (element : Element). SpellsInline bytes element.style []) (same_Some plain_body element here) (nothing_declared bytes))
+no_style_attribute bytes lamp (suc number) element decls here own = absurd (cc)
+
+pub lamp_is_spelled : (bytes : List ℕ) (lamp : Lamp) → IsLampPage bytes lamp → SpellScene bytes (lamp_scene lamp)
+lamp_is_spelled bytes lamp is = record {
+  sources = lamp_sources lamp;
+  are_sources = record {
+    page = styled_page (lamp_style lamp);
+    sheet = lamp_sheet lamp;
+    inline = [] ∷ [];
+    is_style = record { is_page = lamp_is_read bytes lamp is; is_sheet = lamp_spells bytes lamp is };
+    are_inline = record { one_each = refl; spelled = λ number element decls here own. no_style_attribute bytes lamp number element decls here own };
+    sources_are = refl;
+  };
+  is_scene = has_scene lamp;
+}
+
+pub lamp_is_loaded : (bytes : List ℕ) (lamp : Lamp) → IsLampPage bytes lamp → IsLoadedAs bytes (lamp_scene lamp)
+lamp_is_loaded bytes lamp is = record { short = lamp_is_short bytes lamp is; spelled = lamp_is_spelled bytes lamp is }
+
+-- which is animated
+pub lamp_is_animated : (lamp : Lamp) → is_animated (lamp_scene lamp) ≡ true
+lamp_is_animated lamp = refl

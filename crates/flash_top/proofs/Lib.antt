@@ -4,4 +4,5 @@ pub mod Decimals
 pub mod LampPage
 pub mod OutcomeLemmas
 pub mod RefusalLemmas
+pub mod StillPage
 pub mod StyledPage

@@ -1,5 +1,5 @@
 -- Outcomes of a lamp, of a page and of words: what holds below holds above, outcome by outcome.
-use Rattle.std.proofs.Common.{ℕ, List, Option, Some, None, subst}
+use Rattle.std.proofs.Common.{ℕ, List, Option, Some, None, subst, inl}
 use Rattle.page_model.specs.Viewing.{Viewing}
 use Rattle.io_edge.specs.Files.{Files}
 use Rattle.io_edge.specs.Reading.{IsFile}
@@ -16,7 +16,7 @@ verdict_of_lamp setup bytes lamp WordsRefused page h = h
 verdict_of_lamp setup bytes lamp ReadFault page h = h
 verdict_of_lamp setup bytes lamp (Refused refusal) page h = absurd h
 verdict_of_lamp setup bytes lamp NotYet page h = absurd h
-verdict_of_lamp setup bytes lamp (Pass frames) page h = record { lamp = lamp; page = page; passes = h }
+verdict_of_lamp setup bytes lamp (Pass frames) page h = inl (record { lamp = lamp; page = page; passes = h })
 verdict_of_lamp setup bytes lamp (Fail witness) page h = record { lamp = lamp; page = page; fails = h }
 verdict_of_lamp setup bytes lamp TooManyFrames page h = record { lamp = lamp; page = page; too_long = h }
 verdict_of_lamp setup bytes lamp NoMemory page h = h

@@ -1,45 +1,110 @@
--- A fault of the page's text is a refusal of the page, and a page is refused for one cause.
-use Rattle.std.proofs.Common.{◌≡◌, ℕ, ◌<◌, ◌≤◌, List, length, refl, ap, arith}
-use Rattle.page_model.specs.declared.element.PageText.{PageText}
-use Rattle.page_reader.specs.PageText.{IsPageFault}
-use Rattle.page_reader.specs.declared.fault.PageFault.{PageFault}
+-- A fault of the page is a refusal of it, and a page is refused for one cause.
+use Rattle.std.proofs.Common.{◌≡◌, ℕ, ◌<◌, ◌≤◌, ◌⊎◌, inl, inr, List, length, Result, Ok, Err, refl, sym, ap, ◌∙◌, subst, arith}
+use Rattle.page_model.specs.Viewing.{Viewing}
+use Rattle.page_model.specs.declared.scene.Scene.{Scene}
 use Rattle.page_reader.specs.declared.fault.PageFault.TheVariants as text
-use Rattle.flash_top.specs.Refusals.{HasTooManyBoxes, IsBadText, IsLoaded, IsLoadFault, IsRefusal, page_limit, refused}
+use Rattle.css_declarations.specs.declared.fault.SheetFault.TheVariants as style
+use Rattle.cascade.specs.declared.scene_fault.SceneFault.TheVariants as element
+use Rattle.page_loader.specs.Loading.{IsFirstFault, IsRefused, SpellScene}
+use Rattle.page_loader.specs.declared.load_fault.LoadFault.{LoadFault}
+use Rattle.page_loader.specs.declared.load_fault.LoadFault.TheVariants.{Page, Sheet, Scene as NoScene, NoMemory as Unloaded}
+use Rattle.page_loader.proofs.OneLoading.{one_load}
+use Rattle.flash_top.specs.Outcomes.{IsVerdict}
+use Rattle.flash_top.specs.Refusals.{Breaks, IsLoaded, IsLoadedAs, IsRefusal, page_limit, refused}
 use Rattle.flash_top.specs.declared.refusal.PageRefusal.{PageRefusal}
-use Rattle.flash_top.specs.declared.refusal.PageRefusal.TheVariants.{TooLong, BadText, TooManyBoxes}
+use Rattle.flash_top.specs.declared.refusal.PageRefusal.TheVariants.{TooLong, BadText, TooManyBoxes, BadSheet, UnknownProperty, BadValue, BadKeyframes, OverLimit, NotPlaced, BodyProperty, TooManyAnimations}
+use Rattle.flash_top.specs.declared.outcome.Outcome.TheVariants.{Refused}
 
-pub is_load_fault : (bytes : List ℕ) (fault : PageFault) → length bytes ≤ page_limit → IsPageFault bytes fault → IsLoadFault bytes (refused fault)
-is_load_fault bytes (text.BadText place) short h = record { short = short; none = h }
-is_load_fault bytes text.TooMany short h = record { short = short; many = h }
-is_load_fault bytes text.NoMemory short h = tt
+-- the first fault is a cause of what is told
+fault_told : (setup : Viewing) (bytes : List ℕ) (fault : LoadFault) → Breaks bytes fault → IsVerdict setup bytes (refused fault)
+fault_told setup bytes (Page (text.BadText place)) is = is
+fault_told setup bytes (Page text.TooMany) is = is
+fault_told setup bytes (Page text.NoMemory) is = tt
+fault_told setup bytes (Sheet (style.BadSheet place)) is = is
+fault_told setup bytes (Sheet (style.UnknownProperty place)) is = is
+fault_told setup bytes (Sheet (style.BadValue place)) is = is
+fault_told setup bytes (Sheet (style.BadKeyframes place)) is = is
+fault_told setup bytes (Sheet (style.OverLimit place)) is = is
+fault_told setup bytes (Sheet style.NoMemory) is = tt
+fault_told setup bytes (NoScene (element.NotPlaced number)) is = is
+fault_told setup bytes (NoScene element.BodyProperty) is = is
+fault_told setup bytes (NoScene (element.TooManyAnimations number)) is = is
+fault_told setup bytes (NoScene element.NoMemory) is = tt
+fault_told setup bytes Unloaded is = tt
+
+pub is_refused : (setup : Viewing) (bytes : List ℕ) (fault : LoadFault) → length bytes ≤ page_limit → IsRefused bytes fault → IsVerdict setup bytes (refused fault)
+is_refused setup bytes fault short (inl want) = subst (λ (fault : LoadFault). IsVerdict setup bytes (refused fault)) (sym want) tt
+is_refused setup bytes fault short (inr first) = fault_told setup bytes fault (record { short = short; first = first })
+
+-- the refusal of a fault, and back
+fault_of : PageRefusal → LoadFault
+fault_of TooLong = Unloaded
+fault_of (BadText place) = Page (text.BadText place)
+fault_of TooManyBoxes = Page text.TooMany
+fault_of (BadSheet place) = Sheet (style.BadSheet place)
+fault_of (UnknownProperty place) = Sheet (style.UnknownProperty place)
+fault_of (BadValue place) = Sheet (style.BadValue place)
+fault_of (BadKeyframes place) = Sheet (style.BadKeyframes place)
+fault_of (OverLimit place) = Sheet (style.OverLimit place)
+fault_of (NotPlaced number) = NoScene (element.NotPlaced number)
+fault_of BodyProperty = NoScene element.BodyProperty
+fault_of (TooManyAnimations number) = NoScene (element.TooManyAnimations number)
+
+-- a page is refused for its length, or for the fault of the refusal, which tells the refusal
+record IsTold (bytes : List ℕ) (refusal : PageRefusal) : Type 0 where
+  pub breaks : Breaks bytes (fault_of refusal)
+  pub tells : refused (fault_of refusal) ≡ Refused refusal
+
+cause : (bytes : List ℕ) (refusal : PageRefusal) → IsRefusal bytes refusal → ((refusal ≡ TooLong) × (page_limit < length bytes)) ⊎ IsTold bytes refusal
+unfolding fault_of
+cause bytes TooLong is = inl (refl, is)
+cause bytes (BadText place) is = inr (record { breaks = is; tells = refl })
+cause bytes TooManyBoxes is = inr (record { breaks = is; tells = refl })
+cause bytes (BadSheet place) is = inr (record { breaks = is; tells = refl })
+cause bytes (UnknownProperty place) is = inr (record { breaks = is; tells = refl })
+cause bytes (BadValue place) is = inr (record { breaks = is; tells = refl })
+cause bytes (BadKeyframes place) is = inr (record { breaks = is; tells = refl })
+cause bytes (OverLimit place) is = inr (record { breaks = is; tells = refl })
+cause bytes (NotPlaced number) is = inr (record { breaks = is; tells = refl })
+cause bytes BodyProperty is = inr (record { breaks = is; tells = refl })
+cause bytes (TooManyAnimations number) is = inr (record { breaks = is; tells = refl })
 
 -- bytes that are too many aren't few
 not_both : (bytes : List ℕ) → page_limit < length bytes → length bytes ≤ page_limit → ⊥
 not_both bytes long short = omega arith
 
--- bytes that spell no page don't spell one of many boxes
-none_or_many : (bytes : List ℕ) (place : ℕ) → IsBadText bytes place → HasTooManyBoxes bytes → ⊥
-none_or_many bytes place bad many = bad.none.none many.many.page many.many.spelled.spelled
+same_fault : (fault other : LoadFault) → ◌≡◌ {A = Result Scene LoadFault} (Err other) (Err fault) → other ≡ fault
+same_fault fault other same = cc
+
+same_refusal : (refusal other : PageRefusal) → Refused other ≡ Refused refusal → other ≡ refusal
+same_refusal refusal other same = cc
 
 pub one_cause : (bytes : List ℕ) (refusal other : PageRefusal) → IsRefusal bytes refusal → IsRefusal bytes other → other ≡ refusal
-one_cause bytes TooLong TooLong is also = refl
-one_cause bytes TooLong (BadText place) is also = absurd (not_both bytes is also.short)
-one_cause bytes TooLong TooManyBoxes is also = absurd (not_both bytes is also.short)
-one_cause bytes (BadText place) TooLong is also = absurd (not_both bytes also is.short)
-one_cause bytes (BadText place) (BadText other) is also = ap BadText (is.none.only other also.none.bad)
-one_cause bytes (BadText place) TooManyBoxes is also = absurd (none_or_many bytes place is also)
-one_cause bytes TooManyBoxes TooLong is also = absurd (not_both bytes also is.short)
-one_cause bytes TooManyBoxes (BadText place) is also = absurd (none_or_many bytes place also is)
-one_cause bytes TooManyBoxes TooManyBoxes is also = refl
+one_cause bytes refusal other is also =
+    elim (cause bytes refusal is) [
+      | inl long ↦ elim (cause bytes other also) [
+        | inl too ↦ too.0 ∙ sym long.0
+        | inr told ↦ absurd (not_both bytes long.1 told.breaks.short)
+      ]
+      | inr told ↦ elim (cause bytes other also) [
+        | inl too ↦ absurd (not_both bytes too.1 told.breaks.short)
+        | inr others ↦
+            let same = same_fault (fault_of refusal) (fault_of other) (one_load bytes (Err (fault_of refusal)) (Err (fault_of other)) told.breaks.first others.breaks.first) in
+            same_refusal refusal other (sym others.tells ∙ ap refused same ∙ told.tells)
+      ]
+    ]
 
--- a page that is loaded is refused for nothing
-many_or_few : (bytes : List ℕ) → HasTooManyBoxes bytes → IsLoaded bytes → ⊥
-many_or_few bytes many loaded =
-    let same : loaded.page ≡ many.many.page = many.many.spelled.only loaded.page loaded.read.spelled.spelled in
-    let count : length loaded.page.elements ≡ length many.many.page.elements = ap (λ (page : PageText). length page.elements) same in
-    omega (arith, count, many.many.many, loaded.read.few)
+-- a page that is loaded is refused for nothing, and is loaded as one scene
+no_fault : (bytes : List ℕ) (scene : Scene) (fault : LoadFault) → SpellScene bytes scene → IsFirstFault bytes fault → ⊥
+no_fault bytes scene fault is has = let same : ◌≡◌ {A = Result Scene LoadFault} (Err fault) (Ok scene) = one_load bytes (Ok scene) (Err fault) is has in cc
 
 pub refused_or_loaded : (bytes : List ℕ) (refusal : PageRefusal) → IsRefusal bytes refusal → IsLoaded bytes → ⊥
-refused_or_loaded bytes TooLong is loaded = not_both bytes is loaded.short
-refused_or_loaded bytes (BadText place) is loaded = is.none.none loaded.page loaded.read.spelled.spelled
-refused_or_loaded bytes TooManyBoxes is loaded = many_or_few bytes is loaded
+refused_or_loaded bytes refusal is has =
+    elim (cause bytes refusal is) [
+      | inl long ↦ not_both bytes long.1 has.loaded.short
+      | inr told ↦ no_fault bytes has.scene (fault_of refusal) has.loaded.spelled told.breaks.first
+    ]
+
+pub loaded_once : (bytes : List ℕ) (scene other : Scene) → IsLoadedAs bytes scene → IsLoadedAs bytes other → other ≡ scene
+loaded_once bytes scene other is also =
+    let same : ◌≡◌ {A = Result Scene LoadFault} (Ok other) (Ok scene) = one_load bytes (Ok scene) (Ok other) is.spelled also.spelled in cc

@@ -1,13 +1,16 @@
--- The cause of each outcome: the headline, over the pages that are judged today, which are grey lamp pages.
-use Rattle.std.specs.Prelude.{ℕ, ◌≡◌, List, Option, IfSome, slice_get, Some, ⊤}
+-- The cause of each outcome: the headline, over the pages that are judged today, which are still ones and grey lamps.
+use Rattle.std.specs.Prelude.{ℕ, ◌≡◌, ◌⊎◌, false, true, List, Option, IfSome, slice_get, Some, ⊤}
+use Rattle.page_model.specs.Colour.{IsSafeScene}
 use Rattle.page_model.specs.Viewing.{Viewing}
+use Rattle.page_model.specs.declared.scene.Scene.{Scene}
 use Rattle.page_model.specs.declared.witness.Witness.{Witness}
+use Rattle.frame_state.specs.Scenes.{is_animated}
 use Rattle.io_edge.specs.Faults.{Rose}
 use Rattle.io_edge.specs.Files.{Files, bytes_of}
 use Rattle.grey_lamp.specs.Page.{IsLampPage, IsNoLampPage}
 use Rattle.grey_lamp.specs.Verdict.{Passes, Fails, IsTooLong}
 use Rattle.grey_lamp.specs.declared.lamp.Lamp.{Lamp}
-use Rattle.flash_top.specs.Refusals.{IsLoaded, IsRefusal}
+use Rattle.flash_top.specs.Refusals.{IsLoadedAs, IsRefusal}
 use Rattle.flash_top.specs.Words.{Spells}
 use Rattle.flash_top.specs.declared.outcome.Outcome.{Outcome}
 use Rattle.flash_top.specs.declared.outcome.Outcome.TheVariants.{WordsRefused, ReadFault, Refused, NotYet, Pass, Fail, TooManyFrames, NoMemory}
@@ -25,11 +28,27 @@ IsLampOutcome setup lamp (Fail witness) = Fails setup lamp witness
 IsLampOutcome setup lamp TooManyFrames = IsTooLong setup lamp
 IsLampOutcome setup lamp NoMemory = ⊤
 
--- The bytes are a page of which no window is bad, from the first frame on for ever, and so many frames were needed to know it.
-pub record IsPass (setup : Viewing) (bytes : List ℕ) (frames : ℕ) : Type 0 where
+-- The bytes are a lamp's page of which no window is bad, from the first frame on for ever, and so many frames were needed to know it.
+pub record IsLampPass (setup : Viewing) (bytes : List ℕ) (frames : ℕ) : Type 0 where
   pub lamp : Lamp
   pub page : IsLampPage bytes lamp
   pub passes : Passes setup lamp frames
+
+-- the bytes are a page on which nothing is animated
+pub record IsStillPage (bytes : List ℕ) : Type 0 where
+  pub scene : Scene
+  pub loaded : IsLoadedAs bytes scene
+  pub still : is_animated scene ≡ false
+
+-- The bytes are such a page, and no window of it is bad, from the first frame on for ever; one frame shows it.
+pub record IsStillPass (setup : Viewing) (bytes : List ℕ) (frames : ℕ) : Type 0 where
+  pub page : IsStillPage bytes
+  pub safe : IsSafeScene page.scene setup
+  pub one : frames ≡ 1
+
+-- no window of the page is bad, from the first frame on for ever
+abbrev pub IsPass : Viewing → List ℕ → ℕ → Type 0
+IsPass setup bytes frames = IsLampPass setup bytes frames ⊎ IsStillPass setup bytes frames
 
 -- The bytes are a page of which the window of the witness is bad, and the witness meets all conditions.
 pub record IsFail (setup : Viewing) (bytes : List ℕ) (witness : Witness) : Type 0 where
@@ -43,9 +62,15 @@ pub record IsPastFrames (setup : Viewing) (bytes : List ℕ) : Type 0 where
   pub page : IsLampPage bytes lamp
   pub too_long : IsTooLong setup lamp
 
--- The bytes are a page that is loaded, and it is none that is judged yet.
+-- the bytes are a page on which something is animated
+pub record IsAnimatedPage (bytes : List ℕ) : Type 0 where
+  pub scene : Scene
+  pub loaded : IsLoadedAs bytes scene
+  pub animated : is_animated scene ≡ true
+
+-- The bytes are a page on which something is animated, and it is none that is judged yet.
 pub record IsUnjudged (bytes : List ℕ) : Type 0 where
-  pub loaded : IsLoaded bytes
+  pub page : IsAnimatedPage bytes
   pub no_lamp : IsNoLampPage bytes
 
 -- what the bytes of a page come to, and why

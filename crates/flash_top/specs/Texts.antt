@@ -3,16 +3,24 @@ use Rattle.std.specs.Prelude.{ℕ, ◌≡◌, ◌⊎◌, List, [], ◌∷◌, �
 use Rattle.flash_top.specs.declared.outcome.Outcome.{Outcome}
 use Rattle.flash_top.specs.declared.outcome.Outcome.TheVariants.{WordsRefused, ReadFault, Refused, NotYet, Pass, Fail, TooManyFrames, NoMemory}
 use Rattle.flash_top.specs.declared.refusal.PageRefusal.{PageRefusal}
-use Rattle.flash_top.specs.declared.refusal.PageRefusal.TheVariants.{TooLong, BadText, TooManyBoxes}
+use Rattle.flash_top.specs.declared.refusal.PageRefusal.TheVariants.{TooLong, BadText, TooManyBoxes, BadSheet, UnknownProperty, BadValue, BadKeyframes, OverLimit, NotPlaced, BodyProperty, TooManyAnimations}
 use Rattle.flash_top.specs.declared.status.Status.{Status}
 use Rattle.flash_top.specs.declared.status.Status.TheVariants as status
 use Rattle.flash_witness.specs.WitnessText.{witness_text}
 
--- the line for a page that is refused, without its end; places are byte places from 0 on
+-- the line for a page that is refused, without its end; places are byte places from 0 on, and elements go by number, the body's being 0
 abbrev pub refusal_line : PageRefusal → List ℕ
 refusal_line TooLong = codes "page: too long"
 refusal_line (BadText place) = codes "page: bad text at " ++ decimal place
 refusal_line TooManyBoxes = codes "page: more than 64 boxes"
+refusal_line (BadSheet place) = codes "page: bad sheet at " ++ decimal place
+refusal_line (UnknownProperty place) = codes "page: unknown property at " ++ decimal place
+refusal_line (BadValue place) = codes "page: bad value at " ++ decimal place
+refusal_line (BadKeyframes place) = codes "page: bad keyframes at " ++ decimal place
+refusal_line (OverLimit place) = codes "page: over a limit at " ++ decimal place
+refusal_line (NotPlaced number) = codes "page: element " ++ (decimal number ++ codes " is not placed")
+refusal_line BodyProperty = codes "page: body has a property that it may not have"
+refusal_line (TooManyAnimations number) = codes "page: more than 8 animations on element " ++ decimal number
 
 -- the line for an outcome, without its end
 abbrev pub line_of : Outcome → List ℕ
@@ -40,11 +48,19 @@ status_of (Fail witness) = status.Bad
 status_of TooManyFrames = status.Undecided
 status_of NoMemory = status.NoMemory
 
--- a refusal has a place to tell; the text of each other one is always the same
+-- a refusal has a place or an element to tell; the text of each other one is always the same
 abbrev pub HasOwnLine : PageRefusal → Type 0
 HasOwnLine TooLong = ⊥
 HasOwnLine (BadText place) = Unit {0}
 HasOwnLine TooManyBoxes = ⊥
+HasOwnLine (BadSheet place) = Unit {0}
+HasOwnLine (UnknownProperty place) = Unit {0}
+HasOwnLine (BadValue place) = Unit {0}
+HasOwnLine (BadKeyframes place) = Unit {0}
+HasOwnLine (OverLimit place) = Unit {0}
+HasOwnLine (NotPlaced number) = Unit {0}
+HasOwnLine BodyProperty = ⊥
+HasOwnLine (TooManyAnimations number) = Unit {0}
 
 -- an outcome has numbers or a witness to tell; the text of each other one is always the same
 abbrev pub HasOwnText : Outcome → Type 0

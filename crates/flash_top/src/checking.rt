@@ -1,17 +1,20 @@
 // From words to what they come to: the page is read, loaded and judged.
 ghost use Rattle.std.specs.Prelude.{◌≡◌, ◌≤◌, length, map, string_bytes};
 ghost use Rattle.flash_top.specs.Words.{Spells};
-ghost use Rattle.flash_top.specs.Outcomes.{IsChecked, IsLampOutcome, IsOutcome, IsVerdict, MayOpenPage};
-ghost use Rattle.flash_top.specs.Refusals.{IsLoaded, page_limit};
+ghost use Rattle.page_model.specs.ValidScene.{IsValid};
+ghost use Rattle.flash_top.specs.Outcomes.{IsAnimatedPage, IsChecked, IsLampOutcome, IsOutcome, IsVerdict, MayOpenPage};
+ghost use Rattle.flash_top.specs.Refusals.{IsLoadedAs, page_limit};
 
-use crate::loading::{LoadFault, load};
+use crate::loading::refused;
 use crate::outcome::Outcome;
 use crate::reading::command;
 use crate::refusal::PageRefusal;
 use crate::words::Command;
+use frame_state::is_animated;
 use grey_lamp::{Lamp, LampVerdict, judge_lamp, lamp_of};
 use io_edge::{ReadAllFault, Source, read_all};
-use page_model::{NoMemory, Setup};
+use page_loader::load;
+use page_model::{NoMemory, Scene, Setup};
 use std::alloc::Global;
 
 /// The most bytes of a page.
@@ -53,20 +56,32 @@ fn check<S: Source>(alloc: Global, name: &str, setup: Setup, source: &mut S) -> 
 }
 
 /// What the bytes of a page come to, of which there aren't too many.
+#[tactic(auto, using(crate::proofs::RefusalLemmas::is_refused))]
 fn verdict_on(alloc: Global, bytes: &[u8], setup: Setup) -> Outcome
     requires { length bytes.now ≤ page_limit }
     ensures { IsVerdict setup bytes.now result }
 {
     match load(alloc, bytes) {
-        Ok(_) => verdict_on_page(alloc, bytes, setup),
-        Err(LoadFault::Refused(refusal)) => Outcome::Refused(refusal),
-        Err(LoadFault::NoMemory) => Outcome::NoMemory,
+        Ok(scene) => verdict_on_scene(alloc, bytes, &scene, setup),
+        Err(fault) => refused(fault),
     }
 }
 
-/// What the bytes of a page come to that is loaded.
-fn verdict_on_page(alloc: Global, bytes: &[u8], setup: Setup) -> Outcome
-    requires { IsLoaded bytes.now }
+/// What the bytes of a page come to that is loaded as a scene.
+fn verdict_on_scene(alloc: Global, bytes: &[u8], scene: &Scene, setup: Setup) -> Outcome
+    requires loaded { IsLoadedAs bytes.now scene.now }
+    requires valid { IsValid scene.now }
+    ensures { IsVerdict setup bytes.now result }
+{
+    if is_animated(scene) {
+        return verdict_on_animated(alloc, bytes, setup);
+    }
+    Outcome::Pass { frames: 1 }
+}
+
+/// What the bytes of an animated page come to.
+fn verdict_on_animated(alloc: Global, bytes: &[u8], setup: Setup) -> Outcome
+    requires { IsAnimatedPage bytes.now }
     ensures { IsVerdict setup bytes.now result }
 {
     match lamp_of(alloc, bytes) {

@@ -1,46 +1,62 @@
-// From the bytes of a page to what is judged.
-ghost use Rattle.std.specs.Prelude.{◌≡◌, ◌≤◌, IfErr, IfOk, length};
-ghost use Rattle.page_reader.specs.PageText.{IsRead};
-ghost use Rattle.flash_top.specs.Refusals.{IsLoadFault, page_limit, refused};
+// The fault of a page as it is told.
+ghost use Rattle.std.specs.Prelude.{◌≡◌};
+ghost use Rattle.flash_top.specs.Refusals.{refused};
+ghost use Rattle.page_loader.specs.declared.load_fault.LoadFault.TheVariants.{Page, Scene as NoScene, Sheet};
 
+use crate::outcome::Outcome;
 use crate::refusal::PageRefusal;
-use page_model::PageText;
-use page_reader::{PageFault, read_page};
-use std::alloc::Global;
+use cascade::SceneFault;
+use css_reader::SheetFault;
+use page_loader::LoadFault;
+use page_reader::PageFault;
 
-/// Why a page isn't loaded.
-#[derive(Clone, Copy, Debug)]
-pub(crate) enum LoadFault {
-    /// It is refused.
-    Refused(PageRefusal),
-    /// Memory was refused.
-    NoMemory,
-}
-
-/// The page that the bytes spell.
-///
-/// # Errors
-///
-/// The first fault of the page, by which it is refused; or want of memory.
-#[tactic(auto, using(crate::proofs::RefusalLemmas::is_load_fault))]
-pub(crate) fn load(alloc: Global, bytes: &[u8]) -> Result<PageText, LoadFault>
-    requires { length bytes.now ≤ page_limit }
-    ensures ok { IfOk result (λ page. IsRead bytes.now page) }
-    ensures err { IfErr result (λ fault. IsLoadFault bytes.now fault) }
-{
-    match read_page(alloc, bytes) {
-        Ok(page) => Ok(page),
-        Err(fault) => Err(refused(fault)),
-    }
-}
-
-/// A fault of the page's text as one of the page.
-fn refused(fault: PageFault) -> LoadFault
+/// What a fault of loading comes to.
+pub(crate) fn refused(fault: LoadFault) -> Outcome
     ensures { result ≡ refused fault }
 {
     match fault {
-        PageFault::BadText { at } => LoadFault::Refused(PageRefusal::BadText { at }),
-        PageFault::TooMany => LoadFault::Refused(PageRefusal::TooManyBoxes),
-        PageFault::NoMemory => LoadFault::NoMemory,
+        LoadFault::Page(fault) => refused_text(fault),
+        LoadFault::Sheet(fault) => refused_style(fault),
+        LoadFault::Scene(fault) => refused_scene(fault),
+        LoadFault::NoMemory => Outcome::NoMemory,
+    }
+}
+
+/// A fault of the page's text.
+fn refused_text(fault: PageFault) -> Outcome
+    ensures { result ≡ refused (Page fault) }
+{
+    match fault {
+        PageFault::BadText { at } => Outcome::Refused(PageRefusal::BadText { at }),
+        PageFault::TooMany => Outcome::Refused(PageRefusal::TooManyBoxes),
+        PageFault::NoMemory => Outcome::NoMemory,
+    }
+}
+
+/// A fault of style text.
+fn refused_style(fault: SheetFault) -> Outcome
+    ensures { result ≡ refused (Sheet fault) }
+{
+    match fault {
+        SheetFault::BadSheet { at } => Outcome::Refused(PageRefusal::BadSheet { at }),
+        SheetFault::UnknownProperty { at } => Outcome::Refused(PageRefusal::UnknownProperty { at }),
+        SheetFault::BadValue { at } => Outcome::Refused(PageRefusal::BadValue { at }),
+        SheetFault::BadKeyframes { at } => Outcome::Refused(PageRefusal::BadKeyframes { at }),
+        SheetFault::OverLimit { at } => Outcome::Refused(PageRefusal::OverLimit { at }),
+        SheetFault::NoMemory => Outcome::NoMemory,
+    }
+}
+
+/// A fault of an element.
+fn refused_scene(fault: SceneFault) -> Outcome
+    ensures { result ≡ refused (NoScene fault) }
+{
+    match fault {
+        SceneFault::NotPlaced { index } => Outcome::Refused(PageRefusal::NotPlaced { index }),
+        SceneFault::BodyProperty => Outcome::Refused(PageRefusal::BodyProperty),
+        SceneFault::TooManyAnimations { index } => {
+            Outcome::Refused(PageRefusal::TooManyAnimations { index })
+        }
+        SceneFault::NoMemory => Outcome::NoMemory,
     }
 }

@@ -1,5 +1,5 @@
 // The text and the status of an outcome, and how they are told.
-ghost use Rattle.std.specs.Prelude.{◌≡◌, ◌++◌, ◌∷◌, [], IfOk, MatchOption};
+ghost use Rattle.std.specs.Prelude.{◌≡◌, ◌++◌, ◌∷◌, [], IfOk, MatchOption, string_bytes};
 ghost use Rattle.flash_top.specs.Telling.{Tells};
 ghost use Rattle.flash_top.specs.Texts.{HasOwnLine, HasOwnText, line_of, refusal_line, status_of, text_of};
 
@@ -32,22 +32,41 @@ fn fixed_line(refusal: &PageRefusal) -> Option<&'static [u8]>
 {
     match refusal {
         PageRefusal::TooLong => Some(b"page: too long\n".as_slice()),
-        PageRefusal::BadText { .. } => None,
         PageRefusal::TooManyBoxes => Some(b"page: more than 64 boxes\n".as_slice()),
+        PageRefusal::BodyProperty => {
+            Some(b"page: body has a property that it may not have\n".as_slice())
+        }
+        PageRefusal::BadText { .. }
+        | PageRefusal::BadSheet { .. }
+        | PageRefusal::UnknownProperty { .. }
+        | PageRefusal::BadValue { .. }
+        | PageRefusal::BadKeyframes { .. }
+        | PageRefusal::OverLimit { .. }
+        | PageRefusal::NotPlaced { .. }
+        | PageRefusal::TooManyAnimations { .. } => None,
     }
 }
 
-/// The text of a refusal that has a place to tell, without its end.
-fn own_line(alloc: Global, refusal: &PageRefusal) -> Result<Vec<u8>, NoMemory>
+/// The text of a refusal that has a place or an element to tell, without its end.
+fn own_line(alloc: Global, refusal: &PageRefusal) -> Result<String, NoMemory>
     requires { HasOwnLine refusal.now }
-    ensures { IfOk result (λ text. text.items ≡ refusal_line refusal.now) }
+    ensures { IfOk result (λ text. string_bytes text ≡ refusal_line refusal.now) }
 {
-    match refusal {
-        PageRefusal::BadText { at } => {
-            Ok(format!(in alloc; "page: bad text at {at}")?.into_bytes())
+    Ok(match refusal {
+        PageRefusal::BadText { at } => format!(in alloc; "page: bad text at {at}")?,
+        PageRefusal::BadSheet { at } => format!(in alloc; "page: bad sheet at {at}")?,
+        PageRefusal::UnknownProperty { at } => format!(in alloc; "page: unknown property at {at}")?,
+        PageRefusal::BadValue { at } => format!(in alloc; "page: bad value at {at}")?,
+        PageRefusal::BadKeyframes { at } => format!(in alloc; "page: bad keyframes at {at}")?,
+        PageRefusal::OverLimit { at } => format!(in alloc; "page: over a limit at {at}")?,
+        PageRefusal::NotPlaced { index } => {
+            format!(in alloc; "page: element {index} is not placed")?
+        }
+        PageRefusal::TooManyAnimations { index } => {
+            format!(in alloc; "page: more than 8 animations on element {index}")?
         }
         _ => unreachable!(),
-    }
+    })
 }
 
 /// The text of an outcome whose words are always the same, which takes no memory.
@@ -71,7 +90,7 @@ pub(crate) fn own_text(alloc: Global, outcome: &Outcome) -> Result<Vec<u8>, NoMe
     ensures { IfOk result (λ text. text.items ≡ text_of outcome.now) }
 {
     let mut text = match outcome {
-        Outcome::Refused(refusal) => own_line(alloc, refusal)?,
+        Outcome::Refused(refusal) => own_line(alloc, refusal)?.into_bytes(),
         Outcome::Pass { frames } => format!(in alloc; "pass: frames {frames}")?.into_bytes(),
         Outcome::Fail(witness) => to_text(alloc, witness)?,
         _ => unreachable!(),

@@ -4,8 +4,8 @@ mod GrammarLemmas
 mod LampPieces
 mod NumberLemmas
 mod Pieces
-mod SceneLemmas
-mod SheetLemmas
+pub mod SceneLemmas
+pub mod SheetLemmas
 mod ShorthandLemmas
 mod TokenLemmas
 mod WinnerLemmas

@@ -16,3 +16,5 @@ mod lamps;
 mod pages;
 #[cfg(test)]
 mod running;
+#[cfg(test)]
+mod sheets;

@@ -100,7 +100,10 @@ fn boxes(alloc: Global, count: u32) -> Result<String, Fail> {
 #[test]
 fn too_many_boxes(rt: HostRuntime) -> Result<(), Fail> {
     let most = run_on(rt.alloc(), CHECK, boxes(rt.alloc(), 64)?.as_bytes())?;
-    assert_eq!(rt; most.text.as_slice(), b"page: not yet\n".as_slice());
+    assert_eq!(rt;
+        most.text.as_slice(),
+        b"page: element 1 is not placed\n".as_slice()
+    );
 
     let many = run_on(rt.alloc(), CHECK, boxes(rt.alloc(), 65)?.as_bytes())?;
     assert_eq!(rt; many.status, Status::Page);

@@ -1,4 +1,3 @@
-use Rattle.flash_top.proofs.AnswerLemmas.{refusal_is_answer}
 use Rattle.flash_top.proofs.RefusalLemmas.{one_cause, refused_or_loaded}
 use Rattle.flash_top.proofs.laws.one_refusal.Goals as goal
 
@@ -7,6 +6,3 @@ returns-clause-one c = one_cause
 
 pub returns-clause-apart : goal.returns-clause-apart
 returns-clause-apart c = refused_or_loaded
-
-pub returns-clause-answer : goal.returns-clause-answer
-returns-clause-answer c = refusal_is_answer

@@ -1,6 +1,6 @@
 -- What the lamp comes to, its page does.
 use Rattle.flash_top.proofs.OutcomeLemmas.{verdict_of_lamp}
-use Rattle.flash_top.proofs.checking.verdict_on_page.Goals as goal
+use Rattle.flash_top.proofs.checking.verdict_on_animated.Goals as goal
 
 pub returns-in-Ok-Some : goal.returns-in-Ok-Some
 returns-in-Ok-Some c =
