@@ -1,3 +1,4 @@
 pub mod JoinLemmas
 pub mod MultipleLemmas
 pub mod NeededLemmas
+pub mod WindowLemmas

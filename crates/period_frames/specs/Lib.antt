@@ -3,3 +3,4 @@ pub mod Needed
 pub mod Periods
 pub mod Repeats
 pub mod Settling
+pub mod Windows
