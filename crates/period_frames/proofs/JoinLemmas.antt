@@ -1,6 +1,6 @@
 -- What is known of two lists of animations, of one after the other.
 use Rattle.std.proofs.Common.{◌≡◌, ℕ, ◌+◌, ◌%◌, ◌≤◌, max, true, List, [], ◌∷◌, ◌++◌, arith, subst, sym, inl, inr}
-use Rattle.std.specs.Prelude.{◌-◌, All, filter, IsTrue, Option, Some, None, nat_le, slice_index_or}
+use Rattle.std.specs.Prelude.{◌-◌, All, filter, Option, Some, None, nat_le, slice_index_or}
 use Rattle.std.proofs.lemmas.Bool.{cases_Bool, cases_lt}
 use Rattle.std.proofs.lemmas.Bool.Decides.{nat_tests}
 use Rattle.std.proofs.lemmas.List.Elements.{All-append, All-nil, All-cons, All-head, All-tail, All-weaker, filter-append}
@@ -13,10 +13,7 @@ use Rattle.horizon_laws.proofs.PeriodLemmas.{Whole}
 use Rattle.horizon_laws.proofs.RepeatLemmas.{settled-more}
 use Rattle.period_frames.specs.Multiples.{IsLeastMultiple}
 use Rattle.period_frames.specs.Periods.{AreJoined, IsPeriodOrLong, short_or_none}
-
--- an animation has settled by a frame
-abbrev Settled : Setup → ℕ → Anim → Type 0
-Settled setup frame anim = IsTrue (has_settled setup anim frame)
+use Rattle.period_frames.proofs.SingleLemmas.{Settled}
 
 -- a fact on each of two lists, of one after the other
 all-left : (P : Anim → Type 0) (xs ys : List Anim) → All P (xs ++ ys) → All P xs

@@ -1,4 +1,5 @@
 pub mod JoinLemmas
 pub mod MultipleLemmas
 pub mod NeededLemmas
+pub mod SingleLemmas
 pub mod WindowLemmas
