@@ -1,2 +1,6 @@
+pub mod CountLemmas
+pub mod FormLemmas
 pub mod Hex
+pub mod LookLemmas
+pub mod ReadLemmas
 pub mod Shape

@@ -12,10 +12,18 @@
 //! they stand in it. No newline ends the text.
 #![tactic(auto)]
 
+mod digits;
+mod fault;
+mod laws;
+mod look;
 mod part;
+mod reading;
 #[cfg(test)]
 mod tests;
 mod text;
 mod tint;
 
+pub use fault::TextFault;
+pub use laws::{one_witness_reading, read_again};
+pub use reading::from_text;
 pub use text::to_text;
