@@ -1,5 +1,5 @@
 -- Whatever is looked at, what is found is in form.
-use Rattle.std.proofs.Common.{◌≡◌, codes, length, nat_lt, ℕ, ◌+◌, ◌*◌, ◌<◌, ◌≤◌, max, Bool, true, false, ℤ, pos, negsuc, ◌≤ℤ◌, int_le, List, [], ◌∷◌, All, map, Option, refl, arith, inl, inr}
+use Rattle.std.proofs.Common.{◌≡◌, codes, length, nat_lt, ℕ, ◌+◌, ◌<◌, max, true, ℤ, pos, negsuc, ◌≤ℤ◌, int_le, List, [], ◌∷◌, All, map, Option, refl, arith, inl, inr}
 use Rattle.std.proofs.lemmas.Bool.{cases_Bool}
 use Rattle.std.proofs.lemmas.Bool.Decides.{nat_tests}
 use Rattle.std.proofs.lemmas.Int.{ints}
@@ -7,7 +7,6 @@ use Rattle.std.proofs.lemmas.List.Elements.{All-nil, All-cons}
 use Rattle.serde_json.specs.Data.{Data}
 use Rattle.serde_json.specs.Find.{get}
 use Rattle.page_model.specs.declared.colour.Tint.{Tint}
-use Rattle.page_model.specs.declared.witness.Part.{Part}
 use Rattle.flash_witness.specs.WitnessForm.{short_limit, word_limit, AreOrderedBytes, IsTintInForm, IsPartInForm, IsInForm}
 use Rattle.flash_witness.specs.Look.{natural_in, below, short_in, word_in, integer_in, signed, signed_in, byte_at, digit_value, channel_at, colour_at, tint_at, text_in, tint_in, item_in, nine_of, part_in, list_in, witness_in}
 

@@ -1,11 +1,9 @@
 -- What a look finds: in the object of a witness in form that witness, and anywhere a witness in form.
-use Rattle.std.proofs.Common.{◌≡◌, int_le, nat_lt, ◌^◌, ◌++◌, ℕ, ◌+◌, ◌-◌, ◌*◌, ◌/◌, ◌%◌, ◌<◌, ◌≤◌, max, Bool, true, false, ℤ, pos, negsuc, ◌≤ℤ◌, List, [], ◌∷◌, All, map, length, Option, Some, refl, sym, ap, ◌∙◌, subst, arith, inl, inr}
-use Rattle.std.proofs.lemmas.Bool.{cases_Bool}
+use Rattle.std.proofs.Common.{◌≡◌, int_le, nat_lt, ◌^◌, ◌++◌, ℕ, ◌+◌, ◌*◌, ◌/◌, ◌%◌, ◌<◌, ◌≤◌, max, Bool, true, false, ℤ, pos, negsuc, ◌≤ℤ◌, List, [], ◌∷◌, All, map, length, Option, Some, refl, ap, ◌∙◌, arith}
 use Rattle.std.proofs.lemmas.Bool.Decides.{nat_tests}
 use Rattle.std.proofs.lemmas.Int.{ints}
 use Rattle.std.proofs.lemmas.List.Elements.{All-nil, All-cons, All-head, All-tail}
-use Rattle.serde_json.specs.Data.{Data, array, string, number}
-use Rattle.serde_json.specs.Find.{of_integer}
+use Rattle.serde_json.specs.Data.{Data, array, string}
 use Rattle.serde_json.specs.View.{items_of}
 use Rattle.page_model.specs.declared.colour.Rgb.{Rgb}
 use Rattle.page_model.specs.declared.colour.Tint.{Tint}
@@ -13,10 +11,10 @@ use Rattle.page_model.specs.declared.witness.Kind.{Kind}
 use Rattle.page_model.specs.declared.witness.Kind.TheVariants.{General, Red}
 use Rattle.page_model.specs.declared.witness.Part.{Part}
 use Rattle.page_model.specs.declared.witness.Witness.{Witness}
-use Rattle.flash_witness.specs.TintText.{hex_digit, channel_text, colour_text, is_single, tint_text}
+use Rattle.flash_witness.specs.TintText.{hex_digit, colour_text, is_single, tint_text}
 use Rattle.flash_witness.specs.PartValue.{natural, tint_value, kind_text, part_value}
 use Rattle.flash_witness.specs.WitnessText.{integer, witness_value}
-use Rattle.flash_witness.specs.WitnessForm.{short_limit, word_limit, AreOrderedBytes, IsTintInForm, IsPartInForm, IsInForm}
+use Rattle.flash_witness.specs.WitnessForm.{short_limit, word_limit, IsTintInForm, IsPartInForm, IsInForm}
 use Rattle.flash_witness.specs.Look.{natural_in, below, short_in, word_in, integer_in, signed, signed_in, text_in, kind_in, digit_value, channel_at, colour_at, above, tint_at, tint_in, list_of, list_in, nine_of, part_in, witness_in}
 
 pub list_of_items : (ds : List Data) → list_of (items_of ds) ≡ ds

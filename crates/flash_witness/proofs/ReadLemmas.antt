@@ -1,5 +1,6 @@
 -- Why a text is read, and why it is refused.
-use Rattle.std.proofs.Common.{◌≡◌, false, ◌≢◌, List, ℕ, Some, refl, sym, ap, ◌∙◌, subst, IsUtf8}
+use Rattle.std.proofs.Common.{[], ◌∷◌, ◌++◌, rules, ◌≡◌, false, ◌≢◌, List, ℕ, Some, sym, ap, ◌∙◌, subst, IsUtf8}
+use Rattle.std.proofs.lemmas.Str.{IsUtf8-append}
 use Rattle.serde_json.specs.Data.{Data}
 use Rattle.serde_json.specs.Read.{read}
 use Rattle.serde_json.specs.Written.{compact_text, has_float}
@@ -8,6 +9,7 @@ use Rattle.flash_witness.specs.WitnessText.{witness_value, witness_text}
 use Rattle.flash_witness.specs.WitnessForm.{IsTextOf, IsInForm}
 use Rattle.flash_witness.specs.Look.{witness_in}
 use Rattle.flash_witness.proofs.FormLemmas.{witness-form}
+use Rattle.flash_witness.proofs.NewlineLemmas.{read_line}
 use Rattle.flash_witness.proofs.Shape.{witness_whole}
 use Rattle.flash_witness.proofs.LookLemmas.{witness-again}
 
@@ -45,3 +47,10 @@ one_witness bytes v w first second =
 -- what is written of a witness in form is a text of it
 pub own_text : (bytes : List ℕ) (w : Witness) → IsUtf8 bytes → read bytes ≡ Some (witness_value w) → IsInForm w → IsTextOf bytes w
 own_text bytes w utf8 reads form = record { utf8 = utf8; reads = reads; form = form }
+
+-- and with a newline at its end too
+pub own_line : (bytes line : List ℕ) (w : Witness) → IsUtf8 bytes → read bytes ≡ Some (witness_value w) → IsInForm w → line ≡ bytes ++ 10 ∷ [] → IsTextOf line w
+own_line bytes line w utf8 reads form is =
+    subst (λ text. IsTextOf text w) (sym is) (record { utf8 = IsUtf8-append bytes (10 ∷ []) utf8 newline; reads = read_line bytes ∙ reads; form = form }) where
+      newline : IsUtf8 (10 ∷ [])
+      newline = search rules

@@ -1,6 +1,6 @@
 -- What is found of a witness in a JSON value by looking at fixed places, with 0 and the like where nothing fits. No look refuses:
 -- whether the value is the object of what was found is told by comparing texts.
-use Rattle.std.specs.Prelude.{ℕ, ◌+◌, ◌-◌, ◌*◌, ◌&&◌, ◌==◌, ℤ, pos, negsuc, int_le, max, nat_lt, nat_le, List, [], ◌∷◌, length, map, codes, slice_get, if◌then◌else◌, Option, Some, None, option_and_then, unwrap_or}
+use Rattle.std.specs.Prelude.{ℕ, ◌+◌, ◌-◌, ◌*◌, ◌&&◌, ◌==◌, ℤ, pos, negsuc, int_le, max, nat_lt, nat_le, List, [], ◌∷◌, length, map, codes, slice_get, if◌then◌else◌, Option, option_and_then, unwrap_or}
 use Rattle.serde_json.specs.Data.{Data, Items, no_items, item}
 use Rattle.serde_json.specs.Find.{get, at, as_number, as_str, as_array, as_u64, as_i64}
 use Rattle.page_model.specs.declared.colour.Rgb.{Rgb}
