@@ -1,0 +1,130 @@
+-- The flag of one pixel of a cell is that of each of its pixels.
+use Rattle.std.proofs.Common.{◌≡◌, ◌∙◌, ℕ, ◌+◌, ◌-◌, ◌*◌, ◌/◌, ◌%◌, ◌<◌, ◌≤◌, List, slice_get, Some, ap, arith, inl, inr, refl, subst}
+use Rattle.std.specs.Prelude.{◌↔◌, ◌⊎◌, false}
+use Rattle.std.proofs.Math.Nat.{mul-div-le, mul-le-mul_left}
+use Rattle.std.proofs.lemmas.Bool.{cases_lt}
+use Rattle.std.proofs.lemmas.Option.{slice_get_cases}
+use Rattle.page_model.specs.declared.colour.Tint.{Tint}
+use Rattle.page_model.specs.declared.scene.Scene.{Scene}
+use Rattle.page_model.specs.declared.setup.Setup.{Setup}
+use Rattle.page_model.specs.Cells.{cells_between}
+use Rattle.page_model.specs.Change.{IsPossibleFall, IsPossibleRise, IsSingle, IsSureFall, IsSureRise}
+use Rattle.page_model.specs.Enclosure.{LooseRun, own}
+use Rattle.page_model.specs.Horizon.{frames_for}
+use Rattle.page_model.specs.Time.{window_of}
+use Rattle.page_model.specs.TintOf.{IsLooseRunIn, tints_of}
+use Rattle.page_model.specs.ValidScene.{IsValid}
+use Rattle.flash_count.specs.declared.tracking.Flag.{Flag}
+use Rattle.flash_count.proofs.SeenLemmas.{IsSeen, has_chain-seen}
+use Rattle.frame_state.specs.Scenes.{is_coloured}
+use Rattle.region_split.specs.Cutting.{Edges, IsCut, IsInside, bands, cell_of}
+use Rattle.region_split.specs.Sound.{AreSound}
+use Rattle.wide_laws.proofs.LooseLemmas.{loose_state-unique}
+use Rattle.cell_flags.specs.Flags.{AreFlags, AreFlagsBefore, IsFlagAt, IsFlagOf, IsOwnTint}
+use Rattle.cell_flags.proofs.RedLemmas.{never-possibly_red, never-surely_red}
+use Rattle.cell_flags.proofs.RunLemmas.{covers-alike}
+use Rattle.cell_flags.proofs.TintLemmas.{tint-alike}
+
+div-below : (i across down : ℕ) → i < across * down → 0 < across → i / across < down
+div-below i across down below some =
+    elim (cases_lt (i / across) down) [
+      | inl less ↦ less
+      | inr past ↦
+          let rows = mul-le-mul_left across past in
+          let whole = mul-div-le i across in
+          absurd (omega (arith, rows, whole))
+    ]
+
+-- the first pixel of a cell lies in it
+pub corner-inside : (xs ys : List ℕ) (i : ℕ) → AreSound xs → AreSound ys → i < cells_between xs ys
+    → IsInside (cell_of xs ys i) (cell_of xs ys i).x (cell_of xs ys i).y
+corner-inside xs ys i columns rows known =
+    let across : i % bands xs < bands xs = let two = columns.two in omega arith in
+    let down : i / bands xs < bands ys = div-below i (bands xs) (bands ys) known (let two = columns.two in omega arith) in
+    let right = columns.rise (i % bands xs) (omega arith) in
+    let under = rows.rise (i / bands xs) (omega arith) in record {
+      right_of = omega arith;
+      left_of = omega arith;
+      below = omega arith;
+      above = omega arith;
+    }
+
+-- a pixel of the cell has the tint that was seen
+seen-tint : (scene : Scene) (setup : Setup) (frames : ℕ) (edges : Edges) (i start k column row : ℕ) (run : LooseRun) (tint : Tint) → IsValid scene
+    → IsCut scene setup frames edges → i < cells_between edges.xs edges.ys → start + k < frames → k ≤ window_of setup
+    → IsLooseRunIn own scene setup start run → IsInside (cell_of edges.xs edges.ys i) column row
+    → IsOwnTint scene setup (start + k) (cell_of edges.xs edges.ys i).x (cell_of edges.xs edges.ys i).y tint
+    → tint ≡ tints_of scene run (start + k) column row
+seen-tint scene setup frames edges i start k column row run tint valid cut known less within is inside seen =
+    let x : ℕ = (cell_of edges.xs edges.ys i).x in
+    let y : ℕ = (cell_of edges.xs edges.ys i).y in
+    seen.is ∙ tint-alike scene seen.states (run (start + k)) x y column row valid (λ number below.
+    elim (slice_get_cases scene.layers number).1 [
+      | inl found ↦ record {
+        same = loose_state-unique own scene setup (start + k) found.0 (seen.states number) (run (start + k) number)
+            (seen.own_states number found.0 found.2) (is (start + k) number found.0 (omega arith) (omega arith) found.2);
+        alike = covers-alike scene setup frames edges (start + k) number found.0 (seen.states number) i x y column row cut less below found.2
+            (seen.own_states number found.0 found.2) known
+            (corner-inside edges.xs edges.ys i cut.sound.columns cut.sound.rows known) inside;
+      }
+      | inr past ↦ absurd (let far = past.0 in omega arith)
+    ])
+
+-- so the tints that were seen are the pixel's, each of them one colour
+pub record AreSeen (scene : Scene) (setup : Setup) (start column row : ℕ) (run : LooseRun) (tints : List Tint) : Type 0 where
+  pub seen : IsSeen (λ frame. tints_of scene run frame column row) start (window_of setup) tints
+  pub one_colour : (frame : ℕ) → start ≤ frame → frame ≤ start + window_of setup → IsSingle (tints_of scene run frame column row)
+
+seen-tints : (scene : Scene) (setup : Setup) (windows : ℕ) (edges : Edges) (i start column row : ℕ) (run : LooseRun) (flag : Flag) → IsValid scene
+    → IsCut scene setup (frames_for setup windows) edges → i < cells_between edges.xs edges.ys → start < windows
+    → IsLooseRunIn own scene setup start run → IsInside (cell_of edges.xs edges.ys i) column row
+    → (at : IsFlagAt scene setup (cell_of edges.xs edges.ys i).x (cell_of edges.xs edges.ys i).y start flag)
+    → AreSeen scene setup start column row run at.tints
+seen-tints scene setup windows edges i start column row run flag valid cut known before is inside at = record {
+  seen = record { whole = at.whole; each = λ k within. (each k within).1 };
+  one_colour = λ frame low high.
+      let place : start + (frame - start) ≡ frame = omega arith in
+      subst (λ n. IsSingle (tints_of scene run n column row)) place ((each (frame - start) (omega arith)).2);
+} where
+  each : (k : ℕ) → k ≤ window_of setup
+      → (k ≡ k) × (slice_get at.tints k ≡ Some (tints_of scene run (start + k) column row)) × IsSingle (tints_of scene run (start + k) column row)
+  each k within =
+      elim (slice_get_cases at.tints k).1 [
+        | inl found ↦
+            let own_tint = at.own_tints k found.0 found.2 in
+            let same = seen-tint scene setup (frames_for setup windows) edges i start k column row run found.0 valid cut known (omega arith) within is inside own_tint in
+            (refl, found.2 ∙ ap Some same, subst IsSingle same own_tint.is_single)
+        | inr past ↦ absurd (let far = past.0 in omega (arith, at.whole))
+      ]
+
+-- a flag by one of two sorts of chains is one by both, where there are none of the other
+either-way : {General Red Told : Type 0} {b : Type 0} → (b ↔ Told) → (Told ↔ General) → (Red → ⊥) → (b ↔ (General ⊎ Red))
+either-way told seen never = (
+  λ t. inl (seen.0 (told.0 t)),
+  λ either. elim either [ inl general ↦ told.1 (seen.1 general) | inr red ↦ absurd (never red) ],
+)
+
+flag-of : (scene : Scene) (setup : Setup) (windows : ℕ) (edges : Edges) (i start : ℕ) (flag : Flag) → IsValid scene → is_coloured scene ≡ false
+    → IsCut scene setup (frames_for setup windows) edges → i < cells_between edges.xs edges.ys → start < windows
+    → IsFlagAt scene setup (cell_of edges.xs edges.ys i).x (cell_of edges.xs edges.ys i).y start flag
+    → IsFlagOf scene setup start (cell_of edges.xs edges.ys i) flag
+flag-of scene setup windows edges i start flag valid none cut known before at = record {
+  possible = λ run column row is inside.
+      let are = seen-tints scene setup windows edges i start column row run flag valid cut known before is inside at in
+      either-way at.possible
+      (has_chain-seen IsPossibleRise IsPossibleFall (λ frame. tints_of scene run frame column row) start (window_of setup) at.tints are.seen)
+      (never-possibly_red scene setup start run column row valid none is are.one_colour);
+  sure = λ run column row is inside.
+      let are = seen-tints scene setup windows edges i start column row run flag valid cut known before is inside at in
+      either-way at.sure
+      (has_chain-seen IsSureRise IsSureFall (λ frame. tints_of scene run frame column row) start (window_of setup) at.tints are.seen)
+      (never-surely_red scene setup start run column row valid none is);
+}
+
+pub flags-are : (scene : Scene) (setup : Setup) (windows : ℕ) (edges : Edges) (flags : List Flag) → IsValid scene → is_coloured scene ≡ false
+    → IsCut scene setup (frames_for setup windows) edges → AreFlagsBefore scene setup edges windows (cells_between edges.xs edges.ys) flags
+    → AreFlags scene setup edges windows flags
+flags-are scene setup windows edges flags valid none cut are = record {
+  all = are.all;
+  each = λ cell start flag known before there. flag-of scene setup windows edges cell start flag valid none cut known before (are.each cell start flag known before there);
+}
