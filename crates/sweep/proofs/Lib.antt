@@ -1,0 +1,4 @@
+pub mod CalmLemmas
+pub mod SideLemmas
+pub mod AreaLemmas
+pub mod VerdictLemmas

@@ -1,0 +1,100 @@
+-- The verdict of a scene, by the windows that have to be looked at, and by the tints of the own kind of enclosure. A window is told
+-- by its start and by the position where the rectangle holds the most flagged pixels.
+use Rattle.std.specs.Prelude.{ℕ, ℤ, false, ◌≡◌, ◌<◌, ◌≤◌, Result, Ok, Err}
+use Rattle.page_model.specs.declared.setup.Setup.{Setup}
+use Rattle.page_model.specs.declared.scene.Scene.{Scene}
+use Rattle.page_model.specs.Colour.{IsSafeScene}
+use Rattle.page_model.specs.Enclosure.{LooseRun, own}
+use Rattle.page_model.specs.Horizon.{IsNeeded, all_animations, frames_for}
+use Rattle.page_model.specs.TintOf.{IsLooseRunIn, tints_of}
+use Rattle.page_model.specs.ValidScene.{IsValid}
+use Rattle.page_model.specs.Window.{IsPossiblyBad, IsPossiblyFlagged, IsSurelyBad, IsSurelyFlagged}
+use Rattle.frame_state.specs.Scenes.{CanBePainted, is_coloured}
+use Rattle.period_frames.specs.Needed.{NeedsMore, NoneBadBefore}
+use Rattle.region_split.specs.Cutting.{Edges, IsCut, IsWork}
+use Rattle.sweep.specs.declared.types.Reason.TheVariants as reason
+use Rattle.sweep.specs.declared.types.Verdict.{Verdict}
+use Rattle.sweep.specs.declared.types.Verdict.TheVariants.{Pass, Fail, Undecided}
+use Rattle.sweep.specs.declared.types.OpenFault.{OpenFault}
+use Rattle.sweep.specs.declared.types.OpenFault.TheVariants as fault
+use Rattle.sweep.specs.Marks.{IsFirstMost}
+
+-- no window that starts before a frame is bad at any position
+abbrev pub NoneIn : (ℕ → ℤ → ℤ → Type 0) → ℕ → Type 0
+NoneIn Bad end = (start : ℕ) (x y : ℤ) → start < end → Bad start x y → ⊥
+
+-- a window is bad at a position, and none before it is bad anywhere
+pub record IsFirstBad (Bad : ℕ → ℤ → ℤ → Type 0) (end start : ℕ) (x y : ℤ) : Type 0 where
+  pub before : start < end
+  pub bad : Bad start x y
+  pub least : NoneIn Bad start
+
+-- with the states of the own kind, whatever they are, the position is the first of those with the most flagged pixels
+abbrev pub IsSureMost : Scene → Setup → ℕ → ℤ → ℤ → Type 0
+IsSureMost scene setup start x y =
+    (run : LooseRun) → IsLooseRunIn own scene setup start run
+    → IsFirstMost (IsSurelyFlagged own (tints_of scene run) setup start) setup x y
+
+abbrev pub IsPossibleMost : Scene → Setup → ℕ → ℤ → ℤ → Type 0
+IsPossibleMost scene setup start x y =
+    (run : LooseRun) → IsLooseRunIn own scene setup start run
+    → IsFirstMost (IsPossiblyFlagged own (tints_of scene run) setup start) setup x y
+
+-- The first window that is surely bad fails a scene. Where none is, the first that is possibly bad leaves it undecided. Else it passes.
+pub record IsPass (scene : Scene) (setup : Setup) (needed frames : ℕ) : Type 0 where
+  pub frames_are : frames ≡ needed
+  pub none_surely : NoneIn (IsSurelyBad own scene setup) needed
+  pub none_possibly : NoneIn (IsPossiblyBad own scene setup) needed
+  pub safe : IsSafeScene scene setup
+
+pub record IsFail (scene : Scene) (setup : Setup) (needed start : ℕ) (x y : ℤ) : Type 0 where
+  pub first : IsFirstBad (IsSurelyBad own scene setup) needed start x y
+  pub most : IsSureMost scene setup start x y
+
+pub record IsUndecided (scene : Scene) (setup : Setup) (needed start : ℕ) (x y : ℤ) : Type 0 where
+  pub none_surely : NoneIn (IsSurelyBad own scene setup) needed
+  pub first : IsFirstBad (IsPossiblyBad own scene setup) needed start x y
+  pub most : IsPossibleMost scene setup start x y
+
+abbrev pub IsVerdict : Scene → Setup → ℕ → Verdict → Type 0
+IsVerdict scene setup needed (Pass frames apart) = IsPass scene setup needed frames × (apart ≡ false)
+IsVerdict scene setup needed (Fail window) = IsFail scene setup needed window.start window.x window.y
+IsVerdict scene setup needed (Undecided reason.Frames) = ⊥
+IsVerdict scene setup needed (Undecided (reason.Work cells frames)) = ⊥
+IsVerdict scene setup needed (Undecided (reason.Enclosure start x y)) = IsUndecided scene setup needed start x y
+
+-- a scene that can be judged at a setup: its edges, and how many windows have to be looked at
+pub record Judged : Type 0 where
+  pub scene : Scene
+  pub setup : Setup
+  pub cuts : Edges
+  pub needed : ℕ
+
+pub record IsReady (judged : Judged) : Type 0 where
+  pub valid : IsValid judged.scene
+  pub painted : CanBePainted judged.scene
+  pub grey : is_coloured judged.scene ≡ false
+  pub is_needed : IsNeeded judged.setup (all_animations judged.scene) judged.needed
+  pub few : judged.needed ≤ 100000
+  pub for_ever : NoneBadBefore judged.scene judged.setup judged.needed → IsSafeScene judged.scene judged.setup
+  pub cut : IsCut judged.scene judged.setup (frames_for judged.setup judged.needed) judged.cuts
+
+-- a scene is opened as it was handed in
+pub record IsOpened (scene : Scene) (setup : Setup) (judged : Judged) : Type 0 where
+  pub scene_is : judged.scene ≡ scene
+  pub setup_is : judged.setup ≡ setup
+  pub ready : IsReady judged
+
+-- cells times frames are too many
+pub record IsTooMuch (scene : Scene) (setup : Setup) (cells frames : ℕ) : Type 0 where
+  pub needed : ℕ
+  pub is_needed : IsNeeded setup (all_animations scene) needed
+  pub few : needed ≤ 100000
+  pub frames_are : frames ≡ frames_for setup needed
+  pub work : IsWork scene setup frames cells
+
+abbrev pub IsOpening : Scene → Setup → Result Judged OpenFault → Type 0
+IsOpening scene setup (Ok judged) = IsOpened scene setup judged
+IsOpening scene setup (Err fault.Frames) = NeedsMore setup (all_animations scene)
+IsOpening scene setup (Err (fault.Work cells frames)) = IsTooMuch scene setup cells frames
+IsOpening scene setup (Err fault.NoMemory) = Unit {0}
