@@ -1,4 +1,5 @@
-pub mod CalmLemmas
-pub mod SideLemmas
 pub mod AreaLemmas
+pub mod CalmLemmas
+pub mod ExampleLemmas
+pub mod SideLemmas
 pub mod VerdictLemmas

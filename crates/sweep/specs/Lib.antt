@@ -1,3 +1,4 @@
+pub mod ExamplePage
 pub mod Marks
 pub mod Told
 pub mod Verdicts

@@ -10,6 +10,8 @@
 #![tactic(auto)]
 
 mod sweep;
+#[cfg(test)]
+mod tests;
 mod types;
 mod windows;
 
