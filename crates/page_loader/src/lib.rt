@@ -14,6 +14,8 @@ mod laws;
 mod load_fault;
 mod loading;
 mod styles;
+#[cfg(test)]
+mod tests;
 
 pub use laws::one_loading;
 pub use load_fault::LoadFault;
