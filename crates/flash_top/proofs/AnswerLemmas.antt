@@ -8,7 +8,7 @@ use Rattle.lamp_laws.specs.LampScene.{lamp_scene}
 use Rattle.flash_top.specs.Outcomes.{IsAnimatedPage, IsStillPage, IsUnjudged, IsVerdict}
 use Rattle.flash_top.specs.Refusals.{IsLoaded, IsRefusal}
 use Rattle.flash_top.specs.declared.outcome.Outcome.{Outcome}
-use Rattle.flash_top.specs.declared.outcome.Outcome.TheVariants.{WordsRefused, ReadFault, Refused, NotYet, Pass, Fail, TooManyFrames, NoMemory}
+use Rattle.flash_top.specs.declared.outcome.Outcome.TheVariants.{WordsRefused, ReadFault, Refused, NotYet, Pass, Fail, TooManyFrames, Painted, NoMemory}
 use Rattle.flash_top.specs.declared.refusal.PageRefusal.{PageRefusal}
 use Rattle.flash_top.proofs.LampPage.{lamp_is_animated, lamp_is_loaded}
 use Rattle.flash_top.proofs.RefusalLemmas.{loaded_once, one_cause, refused_or_loaded}
@@ -37,6 +37,7 @@ refusal_is_answer setup bytes refusal (Pass frames) is (inl h) = absurd (refused
 refusal_is_answer setup bytes refusal (Pass frames) is (inr h) = absurd (refused_or_loaded bytes refusal is (record { scene = h.page.scene; loaded = h.page.loaded }))
 refusal_is_answer setup bytes refusal (Fail witness) is h = absurd (refused_or_loaded bytes refusal is (lamp_loaded bytes h.lamp h.page))
 refusal_is_answer setup bytes refusal TooManyFrames is h = absurd (refused_or_loaded bytes refusal is (lamp_loaded bytes h.lamp h.page))
+refusal_is_answer setup bytes refusal (Painted tint) is h = absurd h
 refusal_is_answer setup bytes refusal NoMemory is h = inr refl
 
 pub still_is_answer : (setup : Viewing) (bytes : List ℕ) (outcome : Outcome) → IsStillPage bytes → IsVerdict setup bytes outcome → (outcome ≡ Pass 1) ⊎ (outcome ≡ NoMemory)
@@ -48,6 +49,7 @@ still_is_answer setup bytes (Pass frames) is (inl h) = absurd (still_or_lamp byt
 still_is_answer setup bytes (Pass frames) is (inr h) = inl (ap Pass h.one)
 still_is_answer setup bytes (Fail witness) is h = absurd (still_or_lamp bytes h.lamp h.page is)
 still_is_answer setup bytes TooManyFrames is h = absurd (still_or_lamp bytes h.lamp h.page is)
+still_is_answer setup bytes (Painted tint) is h = absurd h
 still_is_answer setup bytes NoMemory is h = inr refl
 
 pub unjudged_is_answer : (setup : Viewing) (bytes : List ℕ) (outcome : Outcome) → IsUnjudged bytes → IsVerdict setup bytes outcome → (outcome ≡ NotYet) ⊎ (outcome ≡ NoMemory)
@@ -59,4 +61,5 @@ unjudged_is_answer setup bytes (Pass frames) is (inl h) = absurd (is.no_lamp h.l
 unjudged_is_answer setup bytes (Pass frames) is (inr h) = absurd (still_or_animated bytes is.page h.page)
 unjudged_is_answer setup bytes (Fail witness) is h = absurd (is.no_lamp h.lamp h.page)
 unjudged_is_answer setup bytes TooManyFrames is h = absurd (is.no_lamp h.lamp h.page)
+unjudged_is_answer setup bytes (Painted tint) is h = absurd h
 unjudged_is_answer setup bytes NoMemory is h = inr refl

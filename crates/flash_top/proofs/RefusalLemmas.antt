@@ -9,7 +9,8 @@ use Rattle.page_loader.specs.Loading.{IsFirstFault, IsRefused, SpellScene}
 use Rattle.page_loader.specs.declared.load_fault.LoadFault.{LoadFault}
 use Rattle.page_loader.specs.declared.load_fault.LoadFault.TheVariants.{Page, Sheet, Scene as NoScene, NoMemory as Unloaded}
 use Rattle.page_loader.proofs.OneLoading.{one_load}
-use Rattle.flash_top.specs.Outcomes.{IsVerdict}
+use Rattle.flash_top.specs.Outcomes.{IsTinted, IsVerdict}
+use Rattle.flash_top.specs.Words.{Spot}
 use Rattle.flash_top.specs.Refusals.{Breaks, IsLoaded, IsLoadedAs, IsRefusal, page_limit, refused}
 use Rattle.flash_top.specs.declared.refusal.PageRefusal.{PageRefusal}
 use Rattle.flash_top.specs.declared.refusal.PageRefusal.TheVariants.{TooLong, BadText, TooManyBoxes, BadSheet, UnknownProperty, BadValue, BadKeyframes, OverLimit, NotPlaced, BodyProperty, TooManyAnimations}
@@ -35,6 +36,26 @@ fault_told setup bytes Unloaded is = tt
 pub is_refused : (setup : Viewing) (bytes : List ℕ) (fault : LoadFault) → length bytes ≤ page_limit → IsRefused bytes fault → IsVerdict setup bytes (refused fault)
 is_refused setup bytes fault short (inl want) = subst (λ (fault : LoadFault). IsVerdict setup bytes (refused fault)) (sym want) tt
 is_refused setup bytes fault short (inr first) = fault_told setup bytes fault (record { short = short; first = first })
+
+fault_untold : (setup : Viewing) (spot : Spot) (bytes : List ℕ) (fault : LoadFault) → Breaks bytes fault → IsTinted setup spot bytes (refused fault)
+fault_untold setup spot bytes (Page (text.BadText place)) is = is
+fault_untold setup spot bytes (Page text.TooMany) is = is
+fault_untold setup spot bytes (Page text.NoMemory) is = tt
+fault_untold setup spot bytes (Sheet (style.BadSheet place)) is = is
+fault_untold setup spot bytes (Sheet (style.UnknownProperty place)) is = is
+fault_untold setup spot bytes (Sheet (style.BadValue place)) is = is
+fault_untold setup spot bytes (Sheet (style.BadKeyframes place)) is = is
+fault_untold setup spot bytes (Sheet (style.OverLimit place)) is = is
+fault_untold setup spot bytes (Sheet style.NoMemory) is = tt
+fault_untold setup spot bytes (NoScene (element.NotPlaced number)) is = is
+fault_untold setup spot bytes (NoScene element.BodyProperty) is = is
+fault_untold setup spot bytes (NoScene (element.TooManyAnimations number)) is = is
+fault_untold setup spot bytes (NoScene element.NoMemory) is = tt
+fault_untold setup spot bytes Unloaded is = tt
+
+pub is_untinted : (setup : Viewing) (spot : Spot) (bytes : List ℕ) (fault : LoadFault) → length bytes ≤ page_limit → IsRefused bytes fault → IsTinted setup spot bytes (refused fault)
+is_untinted setup spot bytes fault short (inl want) = subst (λ (fault : LoadFault). IsTinted setup spot bytes (refused fault)) (sym want) tt
+is_untinted setup spot bytes fault short (inr first) = fault_untold setup spot bytes fault (record { short = short; first = first })
 
 -- the refusal of a fault, and back
 fault_of : PageRefusal → LoadFault

@@ -1,12 +1,14 @@
 -- What is written for each outcome, and the status that the run ends with.
-use Rattle.std.specs.Prelude.{ℕ, ◌≡◌, ◌⊎◌, List, [], ◌∷◌, ◌++◌, codes, decimal}
+use Rattle.std.specs.Prelude.{ℕ, ◌≡◌, ◌⊎◌, List, [], ◌∷◌, ◌++◌, codes, decimal, if◌then◌else◌}
 use Rattle.flash_top.specs.declared.outcome.Outcome.{Outcome}
-use Rattle.flash_top.specs.declared.outcome.Outcome.TheVariants.{WordsRefused, ReadFault, Refused, NotYet, Pass, Fail, TooManyFrames, NoMemory}
+use Rattle.flash_top.specs.declared.outcome.Outcome.TheVariants.{WordsRefused, ReadFault, Refused, NotYet, Pass, Fail, TooManyFrames, Painted, NoMemory}
 use Rattle.flash_top.specs.declared.refusal.PageRefusal.{PageRefusal}
 use Rattle.flash_top.specs.declared.refusal.PageRefusal.TheVariants.{TooLong, BadText, TooManyBoxes, BadSheet, UnknownProperty, BadValue, BadKeyframes, OverLimit, NotPlaced, BodyProperty, TooManyAnimations}
 use Rattle.flash_top.specs.declared.status.Status.{Status}
 use Rattle.flash_top.specs.declared.status.Status.TheVariants as status
+use Rattle.flash_witness.specs.TintText.{colour_text, is_single}
 use Rattle.flash_witness.specs.WitnessText.{witness_text}
+use Rattle.page_model.specs.declared.colour.Tint.{Tint}
 
 -- the line for a page that is refused, without its end; places are byte places from 0 on, and elements go by number, the body's being 0
 abbrev pub refusal_line : PageRefusal → List ℕ
@@ -22,6 +24,12 @@ refusal_line (NotPlaced number) = codes "page: element " ++ (decimal number ++ c
 refusal_line BodyProperty = codes "page: body has a property that it may not have"
 refusal_line (TooManyAnimations number) = codes "page: more than 8 animations on element " ++ decimal number
 
+-- the line for a tint: `#rrggbb`, or `#rrggbb-#rrggbb` with the lower colour first where its two colours differ
+unfoldable pub tint_line : Tint → List ℕ
+tint_line tint =
+    if is_single tint then 35 ∷ colour_text tint.lo
+    else 35 ∷ (colour_text tint.lo ++ 45 ∷ (35 ∷ colour_text tint.hi))
+
 -- the line for an outcome, without its end
 abbrev pub line_of : Outcome → List ℕ
 line_of WordsRefused = codes "words: not understood"
@@ -31,6 +39,7 @@ line_of NotYet = codes "page: not yet"
 line_of (Pass frames) = codes "pass: frames " ++ decimal frames
 line_of (Fail witness) = witness_text witness
 line_of TooManyFrames = codes "undecided: more than 100000 frames"
+line_of (Painted tint) = tint_line tint
 line_of NoMemory = codes "no memory"
 
 -- the text for an outcome: one line, ended by a line feed
@@ -46,6 +55,7 @@ status_of NotYet = status.Page
 status_of (Pass frames) = status.Pass
 status_of (Fail witness) = status.Bad
 status_of TooManyFrames = status.Undecided
+status_of (Painted tint) = status.Pass
 status_of NoMemory = status.NoMemory
 
 -- a refusal has a place or an element to tell; the text of each other one is always the same
@@ -62,7 +72,7 @@ HasOwnLine (NotPlaced number) = Unit {0}
 HasOwnLine BodyProperty = ⊥
 HasOwnLine (TooManyAnimations number) = Unit {0}
 
--- an outcome has numbers or a witness to tell; the text of each other one is always the same
+-- an outcome has numbers, a tint or a witness to tell; the text of each other one is always the same
 abbrev pub HasOwnText : Outcome → Type 0
 HasOwnText WordsRefused = ⊥
 HasOwnText ReadFault = ⊥
@@ -71,6 +81,7 @@ HasOwnText NotYet = ⊥
 HasOwnText (Pass frames) = Unit {0}
 HasOwnText (Fail witness) = Unit {0}
 HasOwnText TooManyFrames = ⊥
+HasOwnText (Painted tint) = Unit {0}
 HasOwnText NoMemory = ⊥
 
 -- what is told for an outcome: itself, or that memory was refused for its text

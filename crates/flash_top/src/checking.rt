@@ -2,7 +2,7 @@
 ghost use Rattle.std.specs.Prelude.{◌≡◌, ◌≤◌, length, map, string_bytes};
 ghost use Rattle.flash_top.specs.Words.{Spells};
 ghost use Rattle.page_model.specs.ValidScene.{IsValid};
-ghost use Rattle.flash_top.specs.Outcomes.{IsAnimatedPage, IsChecked, IsLampOutcome, IsOutcome, IsVerdict, MayOpenPage};
+ghost use Rattle.flash_top.specs.Outcomes.{ComesTo, IsAnimatedPage, IsAnswered, IsLampOutcome, IsOutcome, IsTinted, IsVerdict, MayOpenPage};
 ghost use Rattle.flash_top.specs.Refusals.{IsLoadedAs, page_limit};
 
 use crate::loading::refused;
@@ -10,11 +10,12 @@ use crate::outcome::Outcome;
 use crate::reading::command;
 use crate::refusal::PageRefusal;
 use crate::words::Command;
-use frame_state::is_animated;
+use frame_state::{can_be_painted, is_animated};
 use grey_lamp::{Lamp, LampVerdict, judge_lamp, lamp_of};
 use io_edge::{ReadAllFault, Source, read_all};
 use page_loader::load;
 use page_model::{NoMemory, Scene, Setup};
+use paint_blend::tint;
 use std::alloc::Global;
 
 /// The most bytes of a page.
@@ -38,21 +39,65 @@ fn obeyed<S: Source>(alloc: Global, words: &[String], command: &Command, source:
     ensures { IsOutcome (map string_bytes words.now) (S.files source.old) (S.faults source.old) (S.faults source.new) result }
 {
     match command {
-        Command::Check { page, setup } => check(alloc, words[*page].as_str(), *setup, source),
+        Command::Check { page, .. } => answered(alloc, words[*page].as_str(), command, source),
+        Command::Tint { page, .. } => answered(alloc, words[*page].as_str(), command, source),
     }
 }
 
-/// What `check` of a page comes to.
-fn check<S: Source>(alloc: Global, name: &str, setup: Setup, source: &mut S) -> Outcome
+/// What a command comes to whose page has this name.
+#[tactic(auto, using(crate::proofs::OutcomeLemmas::too_long_file))]
+fn answered<S: Source>(alloc: Global, name: &str, command: &Command, source: &mut S) -> Outcome
     requires { S.may_open source.old name.now }
-    ensures { IsChecked (S.files source.old) (S.faults source.old) (S.faults source.new) name.now setup result }
+    ensures { IsAnswered (S.files source.old) (S.faults source.old) (S.faults source.new) name.now command.now result }
 {
     match read_all(alloc, source, name, PAGE_LIMIT) {
-        Ok(bytes) => verdict_on(alloc, bytes.as_slice(), setup),
+        Ok(bytes) => answer(alloc, bytes.as_slice(), command),
         Err(ReadAllFault::ReadFault) => Outcome::ReadFault,
         Err(ReadAllFault::TooLong) => Outcome::Refused(PageRefusal::TooLong),
         Err(ReadAllFault::NoMemory) => Outcome::NoMemory,
     }
+}
+
+/// What the bytes of a page come to by a command, of which there aren't too many.
+fn answer(alloc: Global, bytes: &[u8], command: &Command) -> Outcome
+    requires { length bytes.now ≤ page_limit }
+    ensures { ComesTo command.now bytes.now result }
+{
+    match command {
+        Command::Check { setup, .. } => verdict_on(alloc, bytes, *setup),
+        Command::Tint {
+            setup,
+            frame,
+            x,
+            y,
+            ..
+        } => tint_on(alloc, bytes, *setup, *frame, *x, *y),
+    }
+}
+
+/// What the bytes of a page come to for the tint of a pixel.
+#[tactic(auto, using(crate::proofs::RefusalLemmas::is_untinted))]
+fn tint_on(alloc: Global, bytes: &[u8], setup: Setup, frame: u32, x: u16, y: u16) -> Outcome
+    requires { length bytes.now ≤ page_limit }
+    ensures { IsTinted setup (record { frame = frame; column = x; row = y }) bytes.now result }
+{
+    match load(alloc, bytes) {
+        Ok(scene) => tint_in(bytes, &scene, setup, frame, x, y),
+        Err(fault) => refused(fault),
+    }
+}
+
+/// The tint of a pixel of a scene, if that can be painted.
+fn tint_in(bytes: &[u8], scene: &Scene, setup: Setup, frame: u32, x: u16, y: u16) -> Outcome
+    requires loaded { IsLoadedAs bytes.now scene.now }
+    requires valid { IsValid scene.now }
+    ensures { IsTinted setup (record { frame = frame; column = x; row = y }) bytes.now result }
+{
+    let _ = bytes;
+    if can_be_painted(scene) {
+        return Outcome::Painted(tint(scene, &setup, frame as u64, x, y));
+    }
+    Outcome::NotYet
 }
 
 /// What the bytes of a page come to, of which there aren't too many.

@@ -3,6 +3,7 @@
 //! [`run`] is the call that `main` makes, and its clause is the headline of the whole: there is an outcome
 //! whose cause holds, and what was written is the text of that outcome. A pass means that no window of the
 //! page is bad, from the first frame on for ever; a fail, that the text is a witness of the first bad window.
+//! The tint of a pixel is its exact colour in the frame.
 //! [`command`] reads the words, and takes no memory.
 //!
 //! The way of a run: `reading` finds the command, `checking` reads the file, loads it and judges the scene, `loading`
@@ -24,6 +25,7 @@ mod refusal;
 mod running;
 mod status;
 mod telling;
+mod tint_line;
 mod words;
 
 pub use laws::{lamp_page_is_loaded, one_answer, one_refusal};

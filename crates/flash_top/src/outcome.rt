@@ -1,6 +1,6 @@
 // What a run finds out, before it is told.
 use crate::refusal::PageRefusal;
-use page_model::{NoMemory, Witness};
+use page_model::{NoMemory, Tint, Witness};
 
 /// What the words, the page and its judgement come to.
 #[derive(Drop)]
@@ -17,6 +17,8 @@ pub enum Outcome {
     Pass { frames: u32 },
     /// A window is bad.
     Fail(Witness),
+    /// The tint of a pixel.
+    Painted(Tint),
     /// More than 100,000 frames would be needed.
     TooManyFrames,
     /// Memory was refused.

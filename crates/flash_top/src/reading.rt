@@ -1,9 +1,9 @@
 // The words of a command line, read.
-ghost use Rattle.std.specs.Prelude.{◌≡◌, ℕ, IfOk, OnErr, IfSome, map, string_bytes};
+ghost use Rattle.std.specs.Prelude.{◌≡◌, ◌<◌, ℕ, IfOk, OnErr, IfSome, decimal, map, string_bytes};
 ghost use Rattle.page_model.specs.Viewing.{Viewing};
-ghost use Rattle.flash_top.specs.Words.{Spells, SpellsCheck, SpellsSetup};
+ghost use Rattle.flash_top.specs.Words.{Spells, SpellsCheck, SpellsSetup, SpellsTint, Spot};
 
-use crate::numerals::{small_number, width_and_height};
+use crate::numerals::{number, small_number, width_and_height};
 use crate::words::{Command, WordsFault};
 use page_model::Setup;
 
@@ -17,14 +17,25 @@ pub fn command(words: &[String]) -> Result<Command, WordsFault>
     ensures err { OnErr result ((c : Command) → Spells (map string_bytes words.now) c → ⊥) }
     ensures spelled { (c : Command) → Spells (map string_bytes words.now) c → result ≡ Ok c }
 {
-    check(words).ok_or(WordsFault)
+    find(words).ok_or(WordsFault)
 }
 
-// The command that `check` PAGE SIZE RATE spell.
-fn check(words: &[String]) -> Option<Command>
+// The command that the words spell, if they spell one.
+fn find(words: &[String]) -> Option<Command>
     ensures ok { IfSome result (λ c. Spells (map string_bytes words.now) c) }
+    ensures spelled { (c : Command) → Spells (map string_bytes words.now) c → result ≡ Some c }
+{
+    match check(words) {
+        Some(setup) => Some(Command::Check { page: 1, setup }),
+        None => tint(words),
+    }
+}
+
+// The setup that `check` PAGE SIZE RATE spell.
+fn check(words: &[String]) -> Option<Setup>
+    ensures ok { IfSome result (λ s. SpellsCheck (map string_bytes words.now) 1 s) }
     ensures spelled { (page : ℕ) (s : Viewing) → SpellsCheck (map string_bytes words.now) page s
-        → result ≡ Some (Command.Check page s) }
+        → (page ≡ 1) × (result ≡ Some s) }
 {
     let [name, _page, size, rate] = words else {
         return None;
@@ -32,8 +43,42 @@ fn check(words: &[String]) -> Option<Command>
     if name.as_str() != "check" {
         return None;
     }
+    setup(size.as_str(), rate.as_str())
+}
+
+// The command that `tint` PAGE SIZE RATE FRAME X Y spell.
+fn tint(words: &[String]) -> Option<Command>
+    ensures ok { IfSome result (λ c. Spells (map string_bytes words.now) c) }
+    ensures spelled { (page : ℕ) (s : Viewing) (spot : Spot) → SpellsTint (map string_bytes words.now) page s spot
+        → result ≡ Some (Command.Tint page s spot.frame spot.column spot.row) }
+{
+    let [name, _page, size, rate, frame, x, y] = words else {
+        return None;
+    };
+    if name.as_str() != "tint" {
+        return None;
+    }
     let setup = setup(size.as_str(), rate.as_str())?;
-    Some(Command::Check { page: 1, setup })
+    let frame = number(frame.as_str())?;
+    let x = below(x.as_str(), setup.width())?;
+    let y = below(y.as_str(), setup.height())?;
+    Some(Command::Tint {
+        page: 1,
+        setup,
+        frame,
+        x,
+        y,
+    })
+}
+
+// The number below a limit that a word writes.
+fn below(word: &str, limit: u16) -> Option<u16>
+    ensures ok { IfSome result (λ n. word.now ≡ decimal n) }
+    ensures within { IfSome result (λ n. n < limit) }
+    ensures spelled { (n : ℕ) → n < limit → word.now ≡ decimal n → result ≡ Some n }
+{
+    let number = small_number(word)?;
+    if number < limit { Some(number) } else { None }
 }
 
 // The setup that SIZE and RATE spell.
@@ -69,7 +114,7 @@ mod tests {
                 setup.height(),
                 setup.rate(),
             ),
-            Err(_) => (0, 0, 0, 0),
+            Ok(Command::Tint { .. }) | Err(_) => (0, 0, 0, 0),
         };
         assert_eq!(rt; read, (1, 1024, 768, 60));
         Ok(())

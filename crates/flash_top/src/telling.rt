@@ -6,6 +6,7 @@ ghost use Rattle.flash_top.specs.Texts.{HasOwnLine, HasOwnText, line_of, refusal
 use crate::outcome::Outcome;
 use crate::refusal::PageRefusal;
 use crate::status::Status;
+use crate::tint_line::tint_line;
 use flash_witness::to_text;
 use io_edge::{Sink, write_all};
 use page_model::NoMemory;
@@ -19,7 +20,7 @@ pub(crate) fn status(outcome: &Outcome) -> Status
         Outcome::WordsRefused => Status::Words,
         Outcome::ReadFault => Status::ReadFault,
         Outcome::Refused(_) | Outcome::NotYet => Status::Page,
-        Outcome::Pass { .. } => Status::Pass,
+        Outcome::Pass { .. } | Outcome::Painted(_) => Status::Pass,
         Outcome::Fail(_) => Status::Bad,
         Outcome::TooManyFrames => Status::Undecided,
         Outcome::NoMemory => Status::NoMemory,
@@ -78,13 +79,13 @@ pub(crate) fn fixed_text(outcome: &Outcome) -> Option<&'static [u8]>
         Outcome::ReadFault => Some(b"cannot read\n".as_slice()),
         Outcome::Refused(refusal) => fixed_line(refusal),
         Outcome::NotYet => Some(b"page: not yet\n".as_slice()),
-        Outcome::Pass { .. } | Outcome::Fail(_) => None,
+        Outcome::Pass { .. } | Outcome::Fail(_) | Outcome::Painted(_) => None,
         Outcome::TooManyFrames => Some(b"undecided: more than 100000 frames\n".as_slice()),
         Outcome::NoMemory => Some(b"no memory\n".as_slice()),
     }
 }
 
-/// The text of an outcome that has numbers or a witness to tell.
+/// The text of an outcome that has numbers, a tint or a witness to tell.
 pub(crate) fn own_text(alloc: Global, outcome: &Outcome) -> Result<Vec<u8>, NoMemory>
     requires { HasOwnText outcome.now }
     ensures { IfOk result (λ text. text.items ≡ text_of outcome.now) }
@@ -93,6 +94,7 @@ pub(crate) fn own_text(alloc: Global, outcome: &Outcome) -> Result<Vec<u8>, NoMe
         Outcome::Refused(refusal) => own_line(alloc, refusal)?.into_bytes(),
         Outcome::Pass { frames } => format!(in alloc; "pass: frames {frames}")?.into_bytes(),
         Outcome::Fail(witness) => to_text(alloc, witness)?,
+        Outcome::Painted(tint) => tint_line(alloc, tint)?.into_bytes(),
         _ => unreachable!(),
     };
     text.push(b'\n')?;

@@ -5,7 +5,19 @@ use page_model::Setup;
 #[derive(Clone, Copy, Debug)]
 pub enum Command {
     /// Judge the page that the word at `page` names, at this viewport and rate.
-    Check { page: usize, setup: Setup },
+    Check {
+        page: usize,
+        setup: Setup,
+    },
+    /// Tell the tint of the pixel at column `x` and row `y` of the viewport, in this frame of the page that the word at
+    /// `page` names.
+    Tint {
+        page: usize,
+        setup: Setup,
+        frame: u32,
+        x: u16,
+        y: u16,
+    },
 }
 
 /// The words spell no command.
