@@ -18,3 +18,5 @@ mod pages;
 mod running;
 #[cfg(test)]
 mod sheets;
+#[cfg(test)]
+mod tints;

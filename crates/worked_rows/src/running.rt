@@ -57,3 +57,11 @@ pub fn lamp(alloc: Global, first: &str, second: &str, animation: &str) -> Result
     )?;
     Ok(page)
 }
+
+/// A page by its style text and its boxes.
+pub fn page_of(alloc: Global, style: &str, boxes: &str) -> Result<String, Fail> {
+    let page = format!(in alloc;
+        "<!DOCTYPE html><html><head><style>{style}</style></head><body>{boxes}</body></html>"
+    )?;
+    Ok(page)
+}

@@ -1,7 +1,6 @@
 // Style text and elements that are refused, and pages on which nothing is animated.
-use crate::running::run_on;
+use crate::running::{page_of, run_on};
 use flash_top::Status;
-use std::alloc::Global;
 use std::test::Fail;
 
 const CHECK: &str = "check p 1024x768 60";
@@ -85,19 +84,14 @@ const STILL: [Row; 2] = [
     },
 ];
 
-/// The page of a row.
-fn page_of(alloc: Global, row: &Row) -> Result<String, Fail> {
-    let style = row.style;
-    let boxes = row.boxes;
-    Ok(format!(in alloc;
-        "<!DOCTYPE html><html><head><style>{style}</style></head><body>{boxes}</body></html>"
-    )?)
-}
-
 #[test]
 fn first_faults(rt: HostRuntime) -> Result<(), Fail> {
     for row in REFUSED.iter() {
-        let told = run_on(rt.alloc(), CHECK, page_of(rt.alloc(), row)?.as_bytes())?;
+        let told = run_on(
+            rt.alloc(),
+            CHECK,
+            page_of(rt.alloc(), row.style, row.boxes)?.as_bytes(),
+        )?;
         assert_eq!(rt; told.text.as_slice(), row.text.as_bytes(), "{}", row.style);
         assert_eq!(rt; told.status, Status::Page, "{}", row.style);
     }
@@ -107,7 +101,11 @@ fn first_faults(rt: HostRuntime) -> Result<(), Fail> {
 #[test]
 fn pages_on_which_nothing_is_animated(rt: HostRuntime) -> Result<(), Fail> {
     for row in STILL.iter() {
-        let told = run_on(rt.alloc(), CHECK, page_of(rt.alloc(), row)?.as_bytes())?;
+        let told = run_on(
+            rt.alloc(),
+            CHECK,
+            page_of(rt.alloc(), row.style, row.boxes)?.as_bytes(),
+        )?;
         assert_eq!(rt; told.text.as_slice(), row.text.as_bytes(), "{}", row.style);
         assert_eq!(rt; told.status, Status::Pass, "{}", row.style);
     }
