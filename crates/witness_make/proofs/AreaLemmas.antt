@@ -1,21 +1,20 @@
 -- The pixels of parts that are apart add up.
-use Rattle.std.proofs.Common.{◌≡◌, ◌∙◌, ℕ, zero, suc, Bool, true, false, ◌+◌, ◌*◌, ◌/◌, ◌%◌, ◌^◌, ◌<◌, ◌≤◌, List, [], ◌∷◌, length, slice_get, get_or, take, Some, ap, arith, inl, inr, refl, subst, sym}
+use Rattle.std.proofs.Common.{◌≡◌, ◌∙◌, ℕ, suc, Bool, false, ◌+◌, ◌*◌, ◌/◌, ◌%◌, ◌^◌, ◌<◌, ◌≤◌, List, [], ◌∷◌, length, slice_get, get_or, take, Some, ap, arith, inl, inr, refl, subst, sym}
 use Rattle.std.specs.Prelude.{IsTrue, ◌&&◌, ◌||◌, nat_le, nat_lt, sum_by}
 use Rattle.std.specs.List.{list_any}
 use Rattle.std.proofs.Math.Nat.{mul-div-le, mul-le-mul_left}
 use Rattle.std.proofs.lemmas.Nat.{div-add-mod'}
 use Rattle.std.proofs.lemmas.Bool.{and_from, and_parts, cases_Bool, cases_lt, le-leb, leb-true, lt-ltb, ltb-true}
-use Rattle.std.proofs.lemmas.List.Folds.{list_any_at}
 use Rattle.std.proofs.lemmas.List.Sums.{sum_by-cons, sum_by_more_le}
 use Rattle.page_model.specs.declared.witness.Part.{Part}
 use Rattle.page_model.specs.Cells.{cells_between}
 use Rattle.page_model.specs.Flash.{area, sum_below}
 use Rattle.page_model.specs.WitnessConditions.{IsOfPart}
-use Rattle.flash_laws.specs.MarkLaws.{either, in_part}
+use Rattle.flash_laws.specs.MarkLaws.{in_part}
 use Rattle.flash_laws.proofs.MarkLemmas.{area-add, area-part}
 use Rattle.flash_laws.proofs.SumLemmas.{sum-none}
 use Rattle.region_split.specs.Cutting.{Edges, IsInside, cell_of}
-use Rattle.window_area.specs.Edges.{AreEdges, band_of, bands, end_of}
+use Rattle.window_area.specs.Edges.{AreEdges, band_of, bands}
 use Rattle.window_area.proofs.BandLemmas.{band_of-between}
 use Rattle.sweep.proofs.SideLemmas.{cell_at}
 

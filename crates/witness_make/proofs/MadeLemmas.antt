@@ -1,13 +1,11 @@
 -- The parts of all cells make a witness.
-use Rattle.std.proofs.Common.{◌≡◌, ◌∙◌, ℕ, zero, suc, ◌+◌, ◌-◌, ◌*◌, ◌/◌, ◌%◌, ◌^◌, ◌<◌, ◌≤◌, List, length, slice_get, get_or, Some, ap, arith, inl, inr, refl, subst, sym}
+use Rattle.std.proofs.Common.{◌≡◌, ◌∙◌, ℕ, ◌+◌, ◌-◌, ◌/◌, ◌%◌, ◌^◌, ◌<◌, ◌≤◌, List, length, slice_get, get_or, Some, ap, arith, inl, inr, refl, subst, sym}
 use Rattle.std.specs.Prelude.{All, IsTrue, ℤ, pos, ◌+ℤ◌, ◌≤ℤ◌, sum_by}
 use Rattle.std.proofs.Math.Nat.{mul-le-mul_left}
 use Rattle.std.specs.List.Sorted.{IsStrictlyIncreasing}
 use Rattle.std.proofs.lemmas.Int.{ints}
-use Rattle.std.proofs.lemmas.Bool.{cases_lt}
 use Rattle.std.proofs.lemmas.List.Folds.{list_any_at}
 use Rattle.std.proofs.lemmas.Option.{get_or_from_slice_get, slice_get-get_or, slice_get_cases, slice_get_within}
-use Rattle.page_model.specs.declared.colour.Tint.{Tint}
 use Rattle.page_model.specs.declared.scene.Scene.{Scene}
 use Rattle.page_model.specs.declared.setup.Setup.{Setup}
 use Rattle.page_model.specs.declared.witness.Part.{Part}
@@ -28,9 +26,9 @@ use Rattle.window_area.proofs.BandLemmas.{edge-le-end}
 use Rattle.sweep.specs.Marks.{CountsFlagged}
 use Rattle.sweep.proofs.SideLemmas.{AreSides, cell_at, cell_at-inside, cell_at-known, sides-are}
 use Rattle.witness_make.specs.Clip.{IsCutTo}
-use Rattle.witness_make.specs.Made.{AreCutsOf, AreParts, AreSurelyFlagged, IsMade, IsPartOf}
-use Rattle.witness_make.specs.Turns.{TellsFirstChain, no_tint}
-use Rattle.witness_make.proofs.AreaLemmas.{AreApartParts, IsHeldAt, LieWithin, area-of-parts, cell_at-is, div-below, held-found, in_some, in_this, in_this-from, in_this-means, size_of}
+use Rattle.witness_make.specs.Made.{AreCutsOf, AreParts, IsMade, IsPartOf}
+use Rattle.witness_make.specs.Turns.{no_tint}
+use Rattle.witness_make.proofs.AreaLemmas.{AreApartParts, LieWithin, area-of-parts, cell_at-is, div-below, held-found, in_some, in_this, in_this-from, in_this-means, size_of}
 use Rattle.witness_make.proofs.SameLemmas.{flagged-all, seen-tint}
 use Rattle.witness_make.proofs.TurnLemmas.{frames-rise, frames-within, place-within, tints-change}
 

@@ -1,14 +1,13 @@
 -- Parts of cells, one by one.
-use Rattle.std.proofs.Common.{◌≡◌, ◌∙◌, ℕ, zero, suc, Bool, true, false, cond, ◌+◌, ◌<◌, ◌≤◌, List, [], ◌∷◌, ◌++◌, length, slice_get, get_or, Some, ap, arith, inl, inr, refl, subst, sym, length-append}
+use Rattle.std.proofs.Common.{◌≡◌, ◌∙◌, ℕ, true, false, cond, ◌+◌, ◌<◌, ◌≤◌, List, [], ◌∷◌, ◌++◌, length, slice_get, Some, ap, arith, inl, inr, refl, subst, sym, length-append}
 use Rattle.std.specs.Prelude.{ℤ, nat_lt}
-use Rattle.std.proofs.lemmas.Bool.{cases_eq, cases_lt, le-ltb, lt-ltb}
+use Rattle.std.proofs.lemmas.Bool.{cases_lt, le-ltb, lt-ltb}
 use Rattle.std.proofs.lemmas.Option.{slice_get_within}
 use Rattle.page_model.specs.declared.colour.Tint.{Tint}
 use Rattle.page_model.specs.declared.scene.Scene.{Scene}
 use Rattle.page_model.specs.declared.setup.Setup.{Setup}
 use Rattle.page_model.specs.declared.witness.Part.{Part}
 use Rattle.page_model.specs.Cells.{cells_between}
-use Rattle.page_model.specs.Flash.{IsInRectangle}
 use Rattle.page_model.specs.Time.{window_of}
 use Rattle.page_model.specs.ValidScene.{IsValid}
 use Rattle.flash_count.specs.declared.tracing.Trace.{Trace}

@@ -1,5 +1,5 @@
 -- The turns of a trace rise, lie in the window and change in turn.
-use Rattle.std.proofs.Common.{◌≡◌, ◌∙◌, ℕ, zero, suc, ◌+◌, ◌-◌, ◌<◌, ◌≤◌, List, [], ◌∷◌, length, slice_get, get_or, Some, ap, arith, inl, inr, set, subst, sym, get_or-set_same, get_or-set_other}
+use Rattle.std.proofs.Common.{◌≡◌, ◌∙◌, ℕ, suc, ◌+◌, ◌<◌, ◌≤◌, List, [], ◌∷◌, length, get_or, ap, arith, inl, inr, set, subst, sym, get_or-set_same, get_or-set_other}
 use Rattle.std.specs.Prelude.{All}
 use Rattle.std.specs.List.Sorted.{IsStrictlyIncreasing}
 use Rattle.std.proofs.lemmas.Bool.{cases_eq}
@@ -9,7 +9,6 @@ use Rattle.page_model.specs.declared.colour.Tint.{Tint}
 use Rattle.page_model.specs.declared.scene.Scene.{Scene}
 use Rattle.page_model.specs.declared.setup.Setup.{Setup}
 use Rattle.page_model.specs.declared.witness.Kind.{Kind}
-use Rattle.page_model.specs.declared.witness.Kind.TheVariants.{General}
 use Rattle.page_model.specs.declared.witness.Part.{Part}
 use Rattle.page_model.specs.Change.{IsSureFall, IsSureRise}
 use Rattle.page_model.specs.Flash.{Alternates}

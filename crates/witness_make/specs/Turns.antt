@@ -1,6 +1,5 @@
 -- The nine turns of a part: the first chain of sure changes that a cell's tints make in a window.
-use Rattle.std.specs.Prelude.{ℕ, ◌≡◌, ◌+◌, ◌<◌, List, length, slice_get, slice_index, slice_index_or, Some}
-use Rattle.page_model.specs.declared.colour.Rgb.{Rgb}
+use Rattle.std.specs.Prelude.{ℕ, ◌≡◌, ◌+◌, ◌<◌, List, length, slice_index, slice_index_or}
 use Rattle.page_model.specs.declared.colour.Tint.{Tint}
 use Rattle.page_model.specs.declared.scene.Scene.{Scene}
 use Rattle.page_model.specs.declared.setup.Setup.{Setup}

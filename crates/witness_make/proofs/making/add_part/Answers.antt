@@ -1,7 +1,5 @@
 -- One cell more, with a part or without.
 use Rattle.std.proofs.Common.{rules}
-use Rattle.region_split.specs.Cutting.{cell_of}
-use Rattle.witness_make.specs.Made.{HasNoPart, IsPartOf}
 use Rattle.witness_make.proofs.PartLemmas.{parts-more, parts-skipped}
 use Rattle.witness_make.proofs.making.add_part.Goals as goal
 

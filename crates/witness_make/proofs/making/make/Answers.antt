@@ -1,8 +1,7 @@
 -- The parts make a witness, and their pixels can be counted.
-use Rattle.std.proofs.Common.{◌≡◌, ◌∙◌, ◌*◌, ◌^◌, ◌<◌, List, ap, rules, subst, sym}
+use Rattle.std.proofs.Common.{◌≡◌, ◌∙◌, ◌^◌, ◌<◌, List, ap, rules, subst, sym}
 use Rattle.std.specs.Prelude.{sum_by}
 use Rattle.page_model.specs.declared.witness.Part.{Part}
-use Rattle.witness_make.specs.Made.{AreParts}
 use Rattle.witness_make.proofs.AreaLemmas.{size_of}
 use Rattle.witness_make.proofs.MadeLemmas.{area-fits, made-as}
 use Rattle.witness_make.proofs.making.make.Goals as goal

@@ -1,8 +1,6 @@
 -- The part of a cell, or why there is none.
-use Rattle.std.proofs.Common.{◌≡◌, ◌+◌, ◌≤◌, arith, length, rules, subst, sym}
-use Rattle.page_model.specs.Time.{window_of}
+use Rattle.std.proofs.Common.{◌+◌, ◌≤◌, rules, subst, sym}
 use Rattle.region_split.specs.declared.types.Rect.{Rect}
-use Rattle.region_split.specs.Cutting.{cell_of}
 use Rattle.witness_make.specs.Clip.{IsCutTo, Misses}
 use Rattle.witness_make.specs.Turns.{AreTintsFrom}
 use Rattle.witness_make.proofs.MadeLemmas.{cell-fits, sides-of}
