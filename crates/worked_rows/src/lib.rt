@@ -13,6 +13,8 @@ mod edge;
 #[cfg(test)]
 mod lamps;
 #[cfg(test)]
+mod limits;
+#[cfg(test)]
 mod pages;
 #[cfg(test)]
 mod running;
