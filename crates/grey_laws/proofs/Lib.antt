@@ -1,0 +1,3 @@
+pub mod TintLemmas
+pub mod GreyLemmas
+pub mod RedLemmas

@@ -1,0 +1,3 @@
+pub mod AreaLemmas
+pub mod WitnessLemmas
+pub mod WrongLemmas
