@@ -20,10 +20,11 @@ use Rattle.frame_state.specs.Scenes.{is_coloured}
 use Rattle.region_split.specs.Cutting.{Edges, IsCut, IsInside, bands, cell_of}
 use Rattle.region_split.specs.Sound.{AreSound}
 use Rattle.wide_laws.proofs.LooseLemmas.{loose_state-unique}
-use Rattle.cell_flags.specs.Flags.{AreFlags, AreFlagsBefore, IsFlagAt, IsFlagOf, IsOwnTint}
-use Rattle.cell_flags.proofs.RedLemmas.{never-possibly_red, never-surely_red}
+use Rattle.cell_tints.specs.Tints.{AreTintsOfCells, IsOwnTint}
+use Rattle.cell_flags.specs.Flags.{AreFlags, AreFlagsBefore, IsFlagAt, IsFlagOf}
+use Rattle.grey_laws.proofs.RedLemmas.{never-possibly_red, never-surely_red}
 use Rattle.cell_flags.proofs.RunLemmas.{covers-alike}
-use Rattle.cell_flags.proofs.TintLemmas.{tint-alike}
+use Rattle.grey_laws.proofs.TintLemmas.{tint-alike}
 
 div-below : (i across down : ℕ) → i < across * down → 0 < across → i / across < down
 div-below i across down below some =
@@ -75,23 +76,25 @@ pub record AreSeen (scene : Scene) (setup : Setup) (start column row : ℕ) (run
   pub seen : IsSeen (λ frame. tints_of scene run frame column row) start (window_of setup) tints
   pub one_colour : (frame : ℕ) → start ≤ frame → frame ≤ start + window_of setup → IsSingle (tints_of scene run frame column row)
 
-seen-tints : (scene : Scene) (setup : Setup) (windows : ℕ) (edges : Edges) (i start column row : ℕ) (run : LooseRun) (flag : Flag) → IsValid scene
-    → IsCut scene setup (frames_for setup windows) edges → i < cells_between edges.xs edges.ys → start < windows
+seen-tints : (scene : Scene) (setup : Setup) (windows : ℕ) (edges : Edges) (tints : List Tint) (i start column row : ℕ) (run : LooseRun) (flag : Flag)
+    → IsValid scene → IsCut scene setup (frames_for setup windows) edges
+    → AreTintsOfCells scene setup edges 0 (frames_for setup windows) tints → i < cells_between edges.xs edges.ys → start < windows
     → IsLooseRunIn own scene setup start run → IsInside (cell_of edges.xs edges.ys i) column row
-    → (at : IsFlagAt scene setup (cell_of edges.xs edges.ys i).x (cell_of edges.xs edges.ys i).y start flag)
-    → AreSeen scene setup start column row run at.tints
-seen-tints scene setup windows edges i start column row run flag valid cut known before is inside at = record {
+    → (at : IsFlagAt tints (cells_between edges.xs edges.ys) i setup.rate start flag) → AreSeen scene setup start column row run at.seen
+seen-tints scene setup windows edges tints i start column row run flag valid cut own_tints known before is inside at = record {
   seen = record { whole = at.whole; each = λ k within. (each k within).1 };
   one_colour = λ frame low high.
       let place : start + (frame - start) ≡ frame = omega arith in
       subst (λ n. IsSingle (tints_of scene run n column row)) place ((each (frame - start) (omega arith)).2);
 } where
   each : (k : ℕ) → k ≤ window_of setup
-      → (k ≡ k) × (slice_get at.tints k ≡ Some (tints_of scene run (start + k) column row)) × IsSingle (tints_of scene run (start + k) column row)
+      → (k ≡ k) × (slice_get at.seen k ≡ Some (tints_of scene run (start + k) column row)) × IsSingle (tints_of scene run (start + k) column row)
   each k within =
-      elim (slice_get_cases at.tints k).1 [
+      elim (slice_get_cases at.seen k).1 [
         | inl found ↦
-            let own_tint = at.own_tints k found.0 found.2 in
+            let frame : 0 + (start + k) ≡ start + k = omega arith in
+            let own_tint = subst (λ n. IsOwnTint scene setup n (cell_of edges.xs edges.ys i).x (cell_of edges.xs edges.ys i).y found.0) frame
+            (own_tints.each (start + k) i found.0 known (at.each k found.0 found.2)) in
             let same = seen-tint scene setup (frames_for setup windows) edges i start k column row run found.0 valid cut known (omega arith) within is inside own_tint in
             (refl, found.2 ∙ ap Some same, subst IsSingle same own_tint.is_single)
         | inr past ↦ absurd (let far = past.0 in omega (arith, at.whole))
@@ -104,27 +107,30 @@ either-way told seen never = (
   λ either. elim either [ inl general ↦ told.1 (seen.1 general) | inr red ↦ absurd (never red) ],
 )
 
-flag-of : (scene : Scene) (setup : Setup) (windows : ℕ) (edges : Edges) (i start : ℕ) (flag : Flag) → IsValid scene → is_coloured scene ≡ false
-    → IsCut scene setup (frames_for setup windows) edges → i < cells_between edges.xs edges.ys → start < windows
-    → IsFlagAt scene setup (cell_of edges.xs edges.ys i).x (cell_of edges.xs edges.ys i).y start flag
-    → IsFlagOf scene setup start (cell_of edges.xs edges.ys i) flag
-flag-of scene setup windows edges i start flag valid none cut known before at = record {
+flag-of : (scene : Scene) (setup : Setup) (windows : ℕ) (edges : Edges) (tints : List Tint) (i start : ℕ) (flag : Flag) → IsValid scene
+    → is_coloured scene ≡ false → IsCut scene setup (frames_for setup windows) edges
+    → AreTintsOfCells scene setup edges 0 (frames_for setup windows) tints → i < cells_between edges.xs edges.ys → start < windows
+    → IsFlagAt tints (cells_between edges.xs edges.ys) i setup.rate start flag → IsFlagOf scene setup start (cell_of edges.xs edges.ys i) flag
+flag-of scene setup windows edges tints i start flag valid none cut own_tints known before at = record {
   possible = λ run column row is inside.
-      let are = seen-tints scene setup windows edges i start column row run flag valid cut known before is inside at in
+      let are = seen-tints scene setup windows edges tints i start column row run flag valid cut own_tints known before is inside at in
       either-way at.possible
-      (has_chain-seen IsPossibleRise IsPossibleFall (λ frame. tints_of scene run frame column row) start (window_of setup) at.tints are.seen)
+      (has_chain-seen IsPossibleRise IsPossibleFall (λ frame. tints_of scene run frame column row) start (window_of setup) at.seen are.seen)
       (never-possibly_red scene setup start run column row valid none is are.one_colour);
   sure = λ run column row is inside.
-      let are = seen-tints scene setup windows edges i start column row run flag valid cut known before is inside at in
+      let are = seen-tints scene setup windows edges tints i start column row run flag valid cut own_tints known before is inside at in
       either-way at.sure
-      (has_chain-seen IsSureRise IsSureFall (λ frame. tints_of scene run frame column row) start (window_of setup) at.tints are.seen)
+      (has_chain-seen IsSureRise IsSureFall (λ frame. tints_of scene run frame column row) start (window_of setup) at.seen are.seen)
       (never-surely_red scene setup start run column row valid none is);
 }
 
-pub flags-are : (scene : Scene) (setup : Setup) (windows : ℕ) (edges : Edges) (flags : List Flag) → IsValid scene → is_coloured scene ≡ false
-    → IsCut scene setup (frames_for setup windows) edges → AreFlagsBefore scene setup edges windows (cells_between edges.xs edges.ys) flags
+pub flags-are : (scene : Scene) (setup : Setup) (windows : ℕ) (edges : Edges) (tints : List Tint) (flags : List Flag) → IsValid scene
+    → is_coloured scene ≡ false → IsCut scene setup (frames_for setup windows) edges
+    → AreTintsOfCells scene setup edges 0 (frames_for setup windows) tints
+    → AreFlagsBefore tints (cells_between edges.xs edges.ys) setup.rate windows (cells_between edges.xs edges.ys) flags
     → AreFlags scene setup edges windows flags
-flags-are scene setup windows edges flags valid none cut are = record {
+flags-are scene setup windows edges tints flags valid none cut own_tints are = record {
   all = are.all;
-  each = λ cell start flag known before there. flag-of scene setup windows edges cell start flag valid none cut known before (are.each cell start flag known before there);
+  each = λ cell start flag known before there.
+      flag-of scene setup windows edges tints cell start flag valid none cut own_tints known before (are.each cell start flag known before there);
 }

@@ -1,16 +1,13 @@
--- The flags of pixels in windows, as those of a cell's first pixel tell them. A flag speaks of the tints of a pixel by the own kind
--- of enclosure, whatever the states are of which they come.
+-- The flags of pixels in windows, as the tints of each cell's first pixel tell them. A flag speaks of the tints of a pixel by the own
+-- kind of enclosure, whatever the states are of which they come.
 use Rattle.std.specs.Prelude.{ℕ, ◌≡◌, ◌↔◌, ◌+◌, ◌*◌, ◌<◌, IsTrue, List, length, slice_get, Some}
 use Rattle.page_model.specs.declared.setup.Setup.{Setup}
 use Rattle.page_model.specs.declared.colour.Tint.{Tint}
 use Rattle.page_model.specs.declared.scene.Scene.{Scene}
 use Rattle.page_model.specs.Cells.{cells_between}
-use Rattle.page_model.specs.Change.{IsSingle}
-use Rattle.page_model.specs.Enclosure.{LooseState, LooseRun, own}
-use Rattle.page_model.specs.TintOf.{IsLooseRunIn, tint_of, tints_of}
-use Rattle.page_model.specs.Time.{window_of}
+use Rattle.page_model.specs.Enclosure.{LooseRun, own}
+use Rattle.page_model.specs.TintOf.{IsLooseRunIn, tints_of}
 use Rattle.page_model.specs.Window.{IsPossiblyFlagged, IsSurelyFlagged}
-use Rattle.frame_state.specs.States.{AreOwn}
 use Rattle.flash_count.specs.declared.tracking.Flag.{Flag}
 use Rattle.flash_count.specs.Chains.{HasPossibleChain, HasSureChain}
 use Rattle.flash_count.specs.Tracked.{Tracked, tracked_after}
@@ -30,42 +27,35 @@ pub record AreFlags (scene : Scene) (setup : Setup) (edges : Edges) (windows : �
   pub each : (cell start : ℕ) (flag : Flag) → cell < cells_between edges.xs edges.ys → start < windows
       → slice_get flags (cell * windows + start) ≡ Some flag → IsFlagOf scene setup start (cell_of edges.xs edges.ys cell) flag
 
--- a tint is that of a pixel in a frame, by states of the own kind, and one colour
-pub record IsOwnTint (scene : Scene) (setup : Setup) (frame column row : ℕ) (tint : Tint) : Type 0 where
-  pub states : ℕ → LooseState
-  pub own_states : AreOwn scene setup frame states
-  pub is : tint ≡ tint_of scene states column row
-  pub is_single : IsSingle tint
+-- tints are those of a cell in some frames from a start on, of a list that has the tints of so many cells frame by frame
+abbrev pub AreSeenOf : List Tint → ℕ → ℕ → ℕ → List Tint → Type 0
+AreSeenOf tints cells cell start seen =
+    (k : ℕ) (tint : Tint) → slice_get seen k ≡ Some tint → slice_get tints ((start + k) * cells + cell) ≡ Some tint
 
--- tints are those of a pixel in the frames from the first on
-abbrev pub AreOwnTints : Scene → Setup → ℕ → ℕ → List Tint → Type 0
-AreOwnTints scene setup column row tints =
-    (frame : ℕ) (tint : Tint) → slice_get tints frame ≡ Some tint → IsOwnTint scene setup frame column row tint
+-- a tracker has seen the tints of a cell in so many frames
+pub record IsTracking (tints : List Tint) (cells cell rate frames : ℕ) (tracker : Tracked) : Type 0 where
+  pub seen : List Tint
+  pub count : length seen ≡ frames
+  pub is : tracker ≡ tracked_after rate seen
+  pub each : AreSeenOf tints cells cell 0 seen
 
--- a flag is that of the pixel's tints in a window
-pub record IsFlagAt (scene : Scene) (setup : Setup) (column row start : ℕ) (flag : Flag) : Type 0 where
-  pub tints : List Tint
-  pub whole : length tints ≡ window_of setup + 1
-  pub own_tints : (k : ℕ) (tint : Tint) → slice_get tints k ≡ Some tint → IsOwnTint scene setup (start + k) column row tint
-  pub possible : IsTrue flag.possible ↔ HasPossibleChain tints
-  pub sure : IsTrue flag.sure ↔ HasSureChain tints
+-- a flag is that of the cell's tints in a window
+pub record IsFlagAt (tints : List Tint) (cells cell rate start : ℕ) (flag : Flag) : Type 0 where
+  pub seen : List Tint
+  pub whole : length seen ≡ rate + 1
+  pub each : AreSeenOf tints cells cell start seen
+  pub possible : IsTrue flag.possible ↔ HasPossibleChain seen
+  pub sure : IsTrue flag.sure ↔ HasSureChain seen
 
--- a tracker has seen the tints of a pixel in so many frames
-pub record IsTracking (scene : Scene) (setup : Setup) (column row frames : ℕ) (tracker : Tracked) : Type 0 where
-  pub tints : List Tint
-  pub count : length tints ≡ frames
-  pub is : tracker ≡ tracked_after setup.rate tints
-  pub own_tints : AreOwnTints scene setup column row tints
-
--- flags are added behind others: those of a pixel in so many windows
-pub record AddsFlags (scene : Scene) (setup : Setup) (column row windows : ℕ) (old new : List Flag) : Type 0 where
+-- flags are added behind others: those of a cell in so many windows
+pub record AddsFlags (tints : List Tint) (cells cell rate windows : ℕ) (old new : List Flag) : Type 0 where
   pub more : length new ≡ length old + windows
   pub kept : (k : ℕ) → k < length old → slice_get new k ≡ slice_get old k
   pub each : (start : ℕ) (flag : Flag) → start < windows → slice_get new (length old + start) ≡ Some flag
-      → IsFlagAt scene setup column row start flag
+      → IsFlagAt tints cells cell rate start flag
 
--- the same while they are added: so many of them stand
-pub record AreFlagsBefore (scene : Scene) (setup : Setup) (edges : Edges) (windows cells : ℕ) (flags : List Flag) : Type 0 where
-  pub all : length flags ≡ cells * windows
-  pub each : (cell start : ℕ) (flag : Flag) → cell < cells → start < windows → slice_get flags (cell * windows + start) ≡ Some flag
-      → IsFlagAt scene setup (cell_of edges.xs edges.ys cell).x (cell_of edges.xs edges.ys cell).y start flag
+-- the flags of the first cells, cell by cell, and of each window by window
+pub record AreFlagsBefore (tints : List Tint) (cells rate windows before : ℕ) (flags : List Flag) : Type 0 where
+  pub all : length flags ≡ before * windows
+  pub each : (cell start : ℕ) (flag : Flag) → cell < before → start < windows → slice_get flags (cell * windows + start) ≡ Some flag
+      → IsFlagAt tints cells cell rate start flag

@@ -6,14 +6,20 @@ ghost use Rattle.frame_state.specs.Scenes.{CanBePainted, is_coloured};
 ghost use Rattle.region_split.specs.Cutting.{IsCut};
 ghost use Rattle.cell_flags.specs.Flags.{AreFlags};
 
-use crate::pixel::add_flags;
+use crate::tracked::add_flags;
+use cell_tints::tints_of_cells;
 use flash_count::Flag;
 use page_model::{NoMemory, Scene, Setup};
 use region_split::Cuts;
 use std::alloc::Global;
 
 /// The flags of all cells of a scene in so many windows, the first of which begins at frame 0: cell by cell, and of each cell
-/// window by window. They are those of each pixel of the cell. The cuts are the scene's in the frames of these windows.
+/// window by window. They are those of each pixel of the cell. The cuts are the scene's in the frames of these windows. It takes
+/// memory for the tints of all cells in all these frames, six bytes each, and two bytes for each flag.
+///
+/// # Errors
+///
+/// `NoMemory` where memory is refused.
 pub fn flags_of_cells(
     alloc: Global,
     scene: &Scene,
@@ -28,10 +34,12 @@ pub fn flags_of_cells(
     requires cut { IsCut scene.now setup.now (frames_for setup.now windows) cuts.now }
     ensures { IfOk result (λ flags. AreFlags scene.now setup.now cuts.now windows flags.items) }
 {
-    let mut flags = Vec::new(alloc);
-    for i in 0..cuts.cells() {
-        let cell = cuts.cell(i);
-        add_flags(&mut flags, scene, setup, windows, cell.x, cell.y)?;
+    let rate = setup.rate();
+    let cells = cuts.cells();
+    let tints = tints_of_cells(alloc, scene, setup, cuts, 0, windows + u32::from(rate) + 1)?;
+    let mut flags = Vec::with_capacity(alloc, cells as usize * windows as usize)?;
+    for cell in 0..cells {
+        add_flags(&mut flags, tints.as_slice(), rate, cells, cell, windows)?;
     }
     Ok(flags)
 }

@@ -10,6 +10,6 @@
 #![tactic(auto)]
 
 mod cells;
-mod pixel;
+mod tracked;
 
 pub use cells::flags_of_cells;

@@ -4,3 +4,4 @@ pub mod RunLemmas
 pub mod SeenLemmas
 pub mod TraceLemmas
 pub mod TrackedLemmas
+pub mod SteadyLemmas

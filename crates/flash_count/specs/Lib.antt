@@ -1,4 +1,5 @@
 pub mod Chains
 pub mod Counting
 pub mod Runs
+pub mod Steady
 pub mod Tracked

@@ -8,12 +8,15 @@
 //! A tint is known between two ends, so there are chains of possible changes and of sure ones.
 //!
 //! From each place the most changes that can be had are counted, for either change first; what is
-//! counted is by two opposing changes, whichever they are. It says nothing of saturated red, nor of
-//! how many pixels flash. What a list of tints has to do with frames stands in `proofs/`.
+//! counted is by two opposing changes, whichever they are. A tracker keeps its flag and counts anew
+//! only where it may have changed: a chain stays while the colour at the window's start does, and
+//! none comes while the colour at its end does. It says nothing of saturated red, nor of how many
+//! pixels flash. What a list of tints has to do with frames stands in `proofs/`.
 #![tactic(auto)]
 
 mod changes;
 mod counting;
+mod recent;
 #[cfg(test)]
 mod tests;
 mod tracing;

@@ -1,11 +1,13 @@
 // The tints of a pixel, frame by frame, and whether they flash in the last window.
-ghost use Rattle.std.specs.Prelude.{◌≡◌, ◌+◌, ◌^◌, ◌<◌, ◌≤◌, ◌↔◌, IsTrue};
-ghost use Rattle.flash_count.specs.Chains.{HasPossibleChain, HasSureChain};
+ghost use Rattle.std.specs.Prelude.{◌≡◌, ◌+◌, ◌^◌, ◌<◌, ◌≤◌, ◌↔◌, IsTrue, false, length};
+ghost use Rattle.flash_count.specs.Chains.{HasChainOf, HasPossibleChain, HasSureChain};
+ghost use Rattle.flash_count.specs.Counting.{Makes};
 ghost use Rattle.flash_count.specs.Tracked.{pushed, untracked};
 
-use crate::changes::{POSSIBLE, SURE};
-use crate::counting::{MOST, has_chain};
-use page_model::{Rgb, Tint};
+use crate::changes::{Opposing, POSSIBLE, SURE};
+use crate::counting::has_chain;
+use crate::recent::Recent;
+use page_model::Tint;
 use std::marker::Model;
 
 /// Whether a window has more than three flashes, possibly and surely.
@@ -15,31 +17,46 @@ pub struct Flag {
     pub sure: bool,
 }
 
-/// The last tints of a pixel: those of one window, or all where fewer were pushed.
+/// The last tints of a pixel: those of one window, or all where fewer were pushed; and their flag.
 #[derive(Drop)]
 pub struct Tracker {
-    rate: u16,
-    count: u32,
-    recent: [Tint; MOST],
-    held: usize,
+    last: Recent,
+    flag: Flag,
 }
 
 impl Model for Tracker {
-    ghost use Rattle.std.specs.Prelude.{◌+◌, ◌≤◌, take};
-    ghost use Rattle.flash_count.specs.Tracked.{HoldsRecent, Tracked};
+    ghost use Rattle.flash_count.specs.Steady.{Tells};
+    ghost use Rattle.flash_count.specs.Tracked.{Tracked};
 
     ghost Value = { Tracked };
 
-    ghost view = { λ t. record { rate = t.rate; count = t.count; recent = take t.held t.recent } };
+    ghost view = { λ t. t.last };
 
-    ghost invariant = { λ t. HoldsRecent t.rate t.held };
+    ghost invariant = { λ t. Tells t.last.recent t.flag };
 }
 
-/// No tint was pushed into such a place yet.
-const BLANK: Tint = Tint {
-    lo: Rgb { r: 0, g: 0, b: 0 },
-    hi: Rgb { r: 0, g: 0, b: 0 },
-};
+/// Whether tints have a chain, by whether the tints one push before had one, and whether the push
+/// lost none and won none.
+fn has_chain_after(
+    before: bool,
+    lost_none: bool,
+    won_none: bool,
+    tints: &[Tint],
+    opposing: Opposing,
+) -> bool
+    requires fits { length tints.now ≤ 241 }
+    requires lost { IsTrue before → IsTrue lost_none → HasChainOf (Makes opposing.first) (Makes opposing.second) tints.now }
+    requires won { before ≡ false → IsTrue won_none → HasChainOf (Makes opposing.first) (Makes opposing.second) tints.now → ⊥ }
+    ensures { IsTrue result ↔ HasChainOf (Makes opposing.first) (Makes opposing.second) tints.now }
+{
+    if before && lost_none {
+        return true;
+    }
+    if !before && won_none {
+        return false;
+    }
+    has_chain(tints, opposing)
+}
 
 impl Tracker {
     /// A tracker before any push, for a rate in frames per second.
@@ -49,10 +66,11 @@ impl Tracker {
         ensures { result ≡ untracked rate }
     {
         Tracker {
-            rate,
-            count: 0,
-            recent: [BLANK; MOST],
-            held: 0,
+            last: Recent::new(rate),
+            flag: Flag {
+                possible: false,
+                sure: false,
+            },
         }
     }
 
@@ -61,15 +79,14 @@ impl Tracker {
         requires { self.old.count < 2 ^ 31 }
         ensures { self.new ≡ pushed tint self.old }
     {
-        self.count += 1;
-        let window = usize::from(self.rate) + 1;
-        if self.held < window {
-            self.recent[self.held] = tint;
-            self.held += 1;
-        } else {
-            self.recent[..window].rotate_left(1);
-            self.recent[window - 1] = tint;
-        }
+        let lost_none = self.last.loses_nothing();
+        let won_none = self.last.gains_nothing(tint);
+        self.last.push(tint);
+        let tints = self.last.tints();
+        self.flag = Flag {
+            possible: has_chain_after(self.flag.possible, lost_none, won_none, tints, POSSIBLE),
+            sure: has_chain_after(self.flag.sure, lost_none, won_none, tints, SURE),
+        };
     }
 
     /// Whether the last tints, one more than the rate or all, have a chain of possible changes, and
@@ -78,10 +95,6 @@ impl Tracker {
         ensures possible { IsTrue result.possible ↔ HasPossibleChain self.now.recent }
         ensures sure { IsTrue result.sure ↔ HasSureChain self.now.recent }
     {
-        let recent = &self.recent[..self.held];
-        Flag {
-            possible: has_chain(recent, POSSIBLE),
-            sure: has_chain(recent, SURE),
-        }
+        self.flag
     }
 }

@@ -2,5 +2,7 @@ pub mod ClipLemmas
 pub mod SameLemmas
 pub mod TurnLemmas
 pub mod PartLemmas
-pub mod AreaLemmas
+pub mod CellLemmas
+pub mod ExampleLemmas
+pub mod FormLemmas
 pub mod MadeLemmas

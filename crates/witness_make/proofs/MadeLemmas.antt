@@ -28,7 +28,9 @@ use Rattle.sweep.proofs.SideLemmas.{AreSides, cell_at, cell_at-inside, cell_at-k
 use Rattle.witness_make.specs.Clip.{IsCutTo}
 use Rattle.witness_make.specs.Made.{AreCutsOf, AreParts, IsMade, IsPartOf}
 use Rattle.witness_make.specs.Turns.{no_tint}
-use Rattle.witness_make.proofs.AreaLemmas.{AreApartParts, LieWithin, area-of-parts, cell_at-is, div-below, held-found, in_some, in_this, in_this-from, in_this-means, size_of}
+use Rattle.witness_make.proofs.CellLemmas.{cell_at-is, div-below}
+use Rattle.witness_text.specs.WitnessForm.{IsInForm}
+use Rattle.witness_laws.proofs.AreaLemmas.{AreApartParts, LieWithin, area-of-parts, held-found, in_some, in_this, in_this-from, in_this-means, size_of}
 use Rattle.witness_make.proofs.SameLemmas.{flagged-all, seen-tint}
 use Rattle.witness_make.proofs.TurnLemmas.{frames-rise, frames-within, place-within, tints-change}
 
@@ -108,7 +110,7 @@ part-of scene setup edges start x y parts k part made there =
     (are.cell k, are.before k (slice_get_within parts k part there), are.each k part there)
 
 -- a property of each part of a cell is one of all parts
-all-parts : (scene : Scene) (setup : Setup) (edges : Edges) (start : ℕ) (x y : ℤ) (parts : List Part) (P : Part → Type 0)
+pub all-parts : (scene : Scene) (setup : Setup) (edges : Edges) (start : ℕ) (x y : ℤ) (parts : List Part) (P : Part → Type 0)
     → AreMadeOf scene setup edges start x y parts
     → ((number : ℕ) (part : Part) → number < cells_between edges.xs edges.ys → IsPartOf scene setup start x y (cell_of edges.xs edges.ys number) part → P part)
     → All P parts
@@ -247,9 +249,9 @@ witness-is scene setup edges w run made same area_is bad is =
     }
 
 pub made-is : (scene : Scene) (setup : Setup) (edges : Edges) (w : Witness) → AreMadeOf scene setup edges w.start w.x w.y w.parts
-    → HasSetup setup w → w.area ≡ sum_by size_of w.parts → IsSurelyBad own scene setup w.start w.x w.y
+    → HasSetup setup w → w.area ≡ sum_by size_of w.parts → IsSurelyBad own scene setup w.start w.x w.y → IsInForm w
     → IsMade scene setup edges w.start w.x w.y w
-made-is scene setup edges w made same area_is bad = record {
+made-is scene setup edges w made same area_is bad form = record {
   start_is = refl;
   x_is = refl;
   y_is = refl;
@@ -257,6 +259,7 @@ made-is scene setup edges w made same area_is bad = record {
   parts = made.parts_are;
   counts = λ run is. counts-is scene setup edges w.start w run made area_is is;
   witness = λ run is. witness-is scene setup edges w run made same area_is bad is;
+  form = form;
 }
 
 -- a cell ends where a viewport may
@@ -306,15 +309,16 @@ area-fits scene setup edges start x y parts valid cuts are =
 pub made-as : (scene : Scene) (setup : Setup) (edges : Edges) (start : ℕ) (x y told_x told_y : ℤ) (width height rate area : ℕ) (parts told : List Part)
     → IsValid scene → AreCutsOf scene setup start edges → AreParts scene setup edges start x y parts → told ≡ parts
     → width ≡ setup.width → height ≡ setup.height → rate ≡ setup.rate → area ≡ sum_by size_of parts → IsSurelyBad own scene setup start x y
+    → IsInForm (record { width = width; height = height; rate = rate; start = start; x = x; y = y; area = area; parts = parts })
     → told_x ≡ x → told_y ≡ y
     → IsMade scene setup edges start x y
     (record { width = width; height = height; rate = rate; start = start; x = told_x; y = told_y; area = area; parts = told })
-made-as scene setup edges start x y told_x told_y width height rate area parts told valid cuts are told_is width_is height_is rate_is area_is bad x_is y_is =
+made-as scene setup edges start x y told_x told_y width height rate area parts told valid cuts are told_is width_is height_is rate_is area_is bad form x_is y_is =
     let w : ℤ → ℤ → List Part → Witness = λ a b ps.
     record { width = width; height = height; rate = rate; start = start; x = a; y = b; area = area; parts = ps } in
     let here : IsMade scene setup edges start x y (w x y parts) =
     made-is scene setup edges (w x y parts) (record { valid = valid; cuts = cuts; parts_are = are })
-    (record { width = width_is; height = height_is; rate = rate_is }) area_is bad in
+    (record { width = width_is; height = height_is; rate = rate_is }) area_is bad form in
     subst (λ a. IsMade scene setup edges start x y (w a told_y told)) (sym x_is)
     (subst (λ b. IsMade scene setup edges start x y (w x b told)) (sym y_is)
     (subst (λ (ps : List Part). IsMade scene setup edges start x y (w x y ps)) (sym told_is) here))

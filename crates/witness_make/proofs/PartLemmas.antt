@@ -14,9 +14,9 @@ use Rattle.flash_count.specs.declared.tracing.Trace.{Trace}
 use Rattle.flash_count.specs.Chains.{IsFirstTrace}
 use Rattle.region_split.specs.declared.types.Rect.{Rect}
 use Rattle.region_split.specs.Cutting.{Edges, IsInside, cell_of}
-use Rattle.cell_flags.proofs.TrackLemmas.{slice_get-back, slice_get-front}
+use Rattle.cell_tints.proofs.ListLemmas.{slice_get-back, slice_get-front}
 use Rattle.witness_make.specs.Clip.{IsCutTo}
-use Rattle.witness_make.specs.Turns.{AreTintsFrom, TellsTrace}
+use Rattle.witness_make.specs.Turns.{AreOfBytes, AreTintsFrom, TellsTrace}
 use Rattle.witness_make.proofs.SameLemmas.{flagged-seen}
 use Rattle.witness_make.specs.Made.{AreCutsOf, AreSurelyFlagged, ArePartsBefore, HasNoPart, IsPartOf}
 
@@ -111,11 +111,12 @@ pub part-told : (scene : Scene) (setup : Setup) (edges : Edges) (start number : 
     → IsCutTo x y (cell_of edges.xs edges.ys number) rect → length tints ≡ window_of setup + 1
     → AreTintsFrom scene setup start (cell_of edges.xs edges.ys number).x (cell_of edges.xs edges.ys number).y tints → IsFirstTrace tints trace
     → part.x ≡ rect.x → part.y ≡ rect.y → part.width ≡ rect.width → part.height ≡ rect.height → TellsTrace start tints trace part
-    → IsPartOf scene setup start x y (cell_of edges.xs edges.ys number) part
-part-told scene setup edges start number x y rect tints trace part valid cuts known cut whole are first x_is y_is width_is height_is tells =
+    → AreOfBytes part.tints → IsPartOf scene setup start x y (cell_of edges.xs edges.ys number) part
+part-told scene setup edges start number x y rect tints trace part valid cuts known cut whole are first x_is y_is width_is height_is tells bytes =
     let told : Rect = record { x = part.x; y = part.y; width = part.width; height = part.height } in
     let same : rect ≡ told = λ i. record { x = sym x_is i; y = sym y_is i; width = sym width_is i; height = sym height_is i } in record {
       flagged = flagged-seen scene setup edges start number tints valid cuts known whole are (trace.places, first.chain);
       cut = subst (λ (r : Rect). IsCutTo x y (cell_of edges.xs edges.ys number) r) same cut;
       tells = record { tints = tints; whole = whole; own_tints = are; trace = trace; first = first; tells = tells };
+      bytes = bytes;
     }

@@ -21,11 +21,11 @@ use Rattle.frame_state.specs.Scenes.{is_coloured}
 use Rattle.frame_state.specs.States.{AreOwn}
 use Rattle.region_split.specs.Cutting.{Edges, IsCut, IsInside, cell_of}
 use Rattle.wide_laws.proofs.LooseLemmas.{loose_run-met, loose_state-unique}
-use Rattle.cell_flags.specs.Flags.{IsOwnTint}
+use Rattle.cell_tints.specs.Tints.{IsOwnTint}
 use Rattle.cell_flags.proofs.FlagLemmas.{corner-inside}
-use Rattle.cell_flags.proofs.RedLemmas.{never-surely_red}
+use Rattle.grey_laws.proofs.RedLemmas.{never-surely_red}
 use Rattle.cell_flags.proofs.RunLemmas.{covers-alike}
-use Rattle.cell_flags.proofs.TintLemmas.{tint-alike}
+use Rattle.grey_laws.proofs.TintLemmas.{tint-alike}
 use Rattle.witness_make.specs.Made.{AreCutsOf, AreSurelyFlagged}
 use Rattle.witness_make.specs.Turns.{AreTintsFrom, no_tint}
 

@@ -1,10 +1,10 @@
 -- The turns of a trace rise, lie in the window and change in turn.
-use Rattle.std.proofs.Common.{◌≡◌, ◌∙◌, ℕ, suc, ◌+◌, ◌<◌, ◌≤◌, List, [], ◌∷◌, length, get_or, ap, arith, inl, inr, set, subst, sym, get_or-set_same, get_or-set_other}
+use Rattle.std.proofs.Common.{◌≡◌, ◌∙◌, ℕ, suc, ◌+◌, ◌*◌, ◌<◌, ◌≤◌, List, [], ◌∷◌, length, get_or, ap, arith, inl, inr, set, subst, sym, get_or-set_same, get_or-set_other, mul-le-mul_right}
 use Rattle.std.specs.Prelude.{All}
 use Rattle.std.specs.List.Sorted.{IsStrictlyIncreasing}
 use Rattle.std.proofs.lemmas.Bool.{cases_eq}
 use Rattle.std.proofs.lemmas.Grind.{get_or_default_zero}
-use Rattle.std.proofs.lemmas.Option.{get_or_from_slice_get}
+use Rattle.std.proofs.lemmas.Option.{get_or_from_slice_get, slice_get-get_or}
 use Rattle.page_model.specs.declared.colour.Tint.{Tint}
 use Rattle.page_model.specs.declared.scene.Scene.{Scene}
 use Rattle.page_model.specs.declared.setup.Setup.{Setup}
@@ -13,10 +13,11 @@ use Rattle.page_model.specs.declared.witness.Part.{Part}
 use Rattle.page_model.specs.Change.{IsSureFall, IsSureRise}
 use Rattle.page_model.specs.Flash.{Alternates}
 use Rattle.page_model.specs.WitnessConditions.{AlternatesSurely}
-use Rattle.cell_flags.specs.Flags.{IsOwnTint}
+use Rattle.region_split.specs.Cutting.{Edges, cell_of}
+use Rattle.cell_tints.specs.Tints.{AreTintsOfCells, IsOwnTint, cells_of}
 use Rattle.flash_count.specs.declared.tracing.Trace.{Trace}
 use Rattle.flash_count.specs.Chains.{IsChangeAt, IsFirstTrace}
-use Rattle.witness_make.specs.Turns.{AreTintsBefore, AreTurnsBefore, TellsTrace, no_tint}
+use Rattle.witness_make.specs.Turns.{ArePicked, AreTintsFrom, AreTurnsBefore, TellsTrace, no_tint}
 
 changes-told : (Changes : Tint → Tint → Type 0) (tints : List Tint) (a b : ℕ) (first second : Tint) → first ≡ get_or tints a no_tint
     → second ≡ get_or tints b no_tint → IsChangeAt Changes tints a b → Changes first second
@@ -43,6 +44,12 @@ place-within tints trace turn some first below =
     let nine = first.chain.nine in
     let inside = first.chain.within turn 0 (omega arith) in
     omega (arith, inside.1)
+
+pub places-within : (tints : List Tint) (trace : Trace) → 0 < length tints → IsFirstTrace tints trace
+    → All (λ place. place < length tints) trace.places
+places-within tints trace some first k d below =
+    let inside = first.chain.within k d below in
+    omega (arith, some, inside.1)
 
 pub frames-rise : (start : ℕ) (tints : List Tint) (trace : Trace) (part : Part) → IsFirstTrace tints trace → TellsTrace start tints trace part
     → IsStrictlyIncreasing part.frames
@@ -75,18 +82,25 @@ tints-change start tints trace part first tells =
       | inr down ↦ inr (alternates-told IsSureFall IsSureRise tints trace.places part.tints long same down)
     ])
 
--- one tint more is seen
-pub tints-more : (scene : Scene) (setup : Setup) (start x y k : ℕ) (old new : List Tint) (tint : Tint) → AreTintsBefore scene setup start x y k old
-    → k < length old → new ≡ set old k tint → IsOwnTint scene setup (start + k) x y tint → AreTintsBefore scene setup start x y (k + 1) new
-tints-more scene setup start x y k old new tint are inside is own j below =
-    elim (cases_eq j k) [
-      | inl same ↦
-          let here : get_or new j no_tint ≡ tint = ap (λ (ts : List Tint). get_or ts j no_tint) is ∙ ap (λ n. get_or (set old k tint) n no_tint) same ∙ get_or-set_same old k tint no_tint inside in
-          subst (λ (t : Tint). IsOwnTint scene setup (start + j) x y t) (sym here) (subst (λ n. IsOwnTint scene setup (start + n) x y tint) (sym same) own)
-      | inr other ↦
-          let there : get_or new j no_tint ≡ get_or old j no_tint = ap (λ (ts : List Tint). get_or ts j no_tint) is ∙ get_or-set_other old k j tint no_tint other in
-          subst (λ (t : Tint). IsOwnTint scene setup (start + j) x y t) (sym there) (are j (omega arith))
-    ]
+-- the tint of a cell in a frame stands among those of all cells
+pub place-known : (cells frames k number : ℕ) → k < frames → number < cells → k * cells + number < cells * frames
+place-known cells frames k number before known =
+    let more = mul-le-mul_right {m = k + 1} {n = frames} cells (omega (arith, before)) in
+    omega (arith, more, known)
+
+-- the tints that are picked for a cell are those of its first pixel
+pub picked-own : (scene : Scene) (setup : Setup) (edges : Edges) (start frames cells number : ℕ) (all tints : List Tint)
+    → AreTintsOfCells scene setup edges start frames all → cells ≡ cells_of edges → number < cells_of edges → length tints ≡ frames
+    → ArePicked all cells number tints
+    → AreTintsFrom scene setup start (cell_of edges.xs edges.ys number).x (cell_of edges.xs edges.ys number).y tints
+picked-own scene setup edges start frames cells number all tints are cells_are known whole picked k below =
+    let there : k * cells_of edges + number < length all =
+    let fits = place-known (cells_of edges) frames k number (omega (arith, whole, below)) known in
+    omega (arith, fits, are.all) in
+    let same : get_or tints k no_tint ≡ get_or all (k * cells_of edges + number) no_tint =
+    picked k below ∙ ap (λ n. get_or all (k * n + number) no_tint) cells_are in
+    subst (λ (t : Tint). IsOwnTint scene setup (start + k) (cell_of edges.xs edges.ys number).x (cell_of edges.xs edges.ys number).y t) (sym same)
+    (are.each k number (get_or all (k * cells_of edges + number) no_tint) known (slice_get-get_or all (k * cells_of edges + number) no_tint there))
 
 -- one turn more is told
 pub turns-more : (start : ℕ) (tints : List Tint) (places : List ℕ) (turn frame : ℕ) (tint : Tint) (frames more_frames : List ℕ) (told more_told : List Tint)

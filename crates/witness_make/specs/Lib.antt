@@ -1,3 +1,4 @@
 pub mod Clip
-pub mod Turns
+pub mod ExamplePage
 pub mod Made
+pub mod Turns

@@ -10,12 +10,14 @@ use Rattle.page_model.specs.Flash.{IsInRectangle}
 use Rattle.page_model.specs.Time.{window_of}
 use Rattle.page_model.specs.TintOf.{IsLooseRunIn, tints_of}
 use Rattle.page_model.specs.Window.{IsSurelyFlagged}
-use Rattle.page_model.specs.WitnessConditions.{HasSetup, IsWitness}
+use Rattle.page_model.specs.WitnessConditions.{HasSetup}
 use Rattle.region_split.specs.declared.types.Rect.{Rect}
 use Rattle.region_split.specs.Cutting.{Edges, IsCut, IsInside, cell_of}
 use Rattle.sweep.specs.Marks.{CountsFlagged}
+use Rattle.witness_laws.specs.Acceptance.{IsAccepted}
 use Rattle.witness_make.specs.Clip.{IsCutTo}
-use Rattle.witness_make.specs.Turns.{TellsFirstChain}
+use Rattle.witness_make.specs.Turns.{AreOfBytes, TellsFirstChain}
+use Rattle.witness_text.specs.WitnessForm.{IsInForm}
 
 -- edges are those of a scene, in all frames of a window and maybe in more
 pub record AreCutsOf (scene : Scene) (setup : Setup) (start : ℕ) (edges : Edges) : Type 0 where
@@ -30,11 +32,12 @@ AreSurelyFlagged scene setup start rect =
     (run : LooseRun) (column row : ℕ) → IsLooseRunIn own scene setup start run → IsInside rect column row
     → IsSurelyFlagged own (tints_of scene run) setup start column row
 
--- a part is that of a cell: its pixels are those of the cell that lie in the rectangle, and it tells the first chain
+-- a part is that of a cell: its pixels are those of the cell that lie in the rectangle, and it tells the first chain, in bytes
 pub record IsPartOf (scene : Scene) (setup : Setup) (start : ℕ) (x y : ℤ) (cell : Rect) (part : Part) : Type 0 where
   pub flagged : AreSurelyFlagged scene setup start cell
   pub cut : IsCutTo x y cell (record { x = part.x; y = part.y; width = part.width; height = part.height })
   pub tells : TellsFirstChain scene setup start cell.x cell.y part
+  pub bytes : AreOfBytes part.tints
 
 -- a cell has none: it isn't surely flagged, or no pixel of it lies in the rectangle
 abbrev pub HasNoPart : Scene → Setup → ℕ → ℤ → ℤ → Rect → Type 0
@@ -63,7 +66,7 @@ AreParts scene setup edges start x y parts =
     ArePartsBefore scene setup edges start x y (cells_between edges.xs edges.ys) parts
 
 -- The witness tells the window, and the parts of all cells. With the states of the own kind, whatever they are, its area is the
--- number of surely flagged pixels in the rectangle, and it meets all conditions.
+-- number of surely flagged pixels in the rectangle; it is accepted, and in form, so that its text reads as it.
 pub record IsMade (scene : Scene) (setup : Setup) (edges : Edges) (start : ℕ) (x y : ℤ) (w : Witness) : Type 0 where
   pub start_is : w.start ≡ start
   pub x_is : w.x ≡ x
@@ -72,4 +75,5 @@ pub record IsMade (scene : Scene) (setup : Setup) (edges : Edges) (start : ℕ) 
   pub parts : AreParts scene setup edges start x y w.parts
   pub counts : (run : LooseRun) → IsLooseRunIn own scene setup start run
       → CountsFlagged (IsSurelyFlagged own (tints_of scene run) setup start) setup x y w.area
-  pub witness : (run : LooseRun) → IsLooseRunIn own scene setup start run → IsWitness setup (tints_of scene run) w
+  pub witness : IsAccepted scene setup w
+  pub form : IsInForm w

@@ -6,10 +6,12 @@ ghost use Rattle.page_model.specs.Enclosure.{own};
 ghost use Rattle.page_model.specs.ValidScene.{IsValid};
 ghost use Rattle.page_model.specs.Window.{IsSurelyBad};
 ghost use Rattle.frame_state.specs.Scenes.{CanBePainted, is_coloured};
+ghost use Rattle.cell_tints.specs.Tints.{AreTintsOfCells};
 ghost use Rattle.witness_make.specs.Made.{AreCutsOf, AreParts, ArePartsBefore, IsMade};
 
 use crate::part::part_of;
-use page_model::{BadWindow, List, NoMemory, Part, Scene, Setup, Witness};
+use cell_tints::tints_of_cells;
+use page_model::{BadWindow, List, NoMemory, Part, Scene, Setup, Tint, Witness};
 use region_split::Cuts;
 use std::alloc::Global;
 
@@ -19,18 +21,19 @@ fn add_part(
     scene: &Scene,
     setup: &Setup,
     cuts: &Cuts,
+    tints: &[Tint],
     bad: BadWindow,
     number: u32,
 ) -> Result<(), NoMemory>
     requires valid { IsValid scene.now }
-    requires painted { CanBePainted scene.now }
     requires grey { is_coloured scene.now ≡ false }
     requires cut { AreCutsOf scene.now setup.now bad.start cuts.now }
     requires known { number < cells_between cuts.now.xs cuts.now.ys }
+    requires seen { AreTintsOfCells scene.now setup.now cuts.now bad.start (setup.now.rate + 1) tints.now }
     requires before { ArePartsBefore scene.now setup.now cuts.now bad.start bad.x bad.y number parts.old.items }
     ensures { OnOk result (ArePartsBefore scene.now setup.now cuts.now bad.start bad.x bad.y (number + 1) parts.new.items) }
 {
-    match part_of(scene, setup, cuts, bad, number) {
+    match part_of(scene, setup, cuts, tints, bad, number) {
         Some(part) => {
             parts.push(part)?;
             Ok(())
@@ -39,7 +42,29 @@ fn add_part(
     }
 }
 
-/// The parts of all cells.
+/// The parts of all cells, by their tints in the frames of the window.
+fn parts_by(
+    alloc: Global,
+    scene: &Scene,
+    setup: &Setup,
+    cuts: &Cuts,
+    tints: &[Tint],
+    bad: BadWindow,
+) -> Result<Vec<Part>, NoMemory>
+    requires valid { IsValid scene.now }
+    requires grey { is_coloured scene.now ≡ false }
+    requires cut { AreCutsOf scene.now setup.now bad.start cuts.now }
+    requires seen { AreTintsOfCells scene.now setup.now cuts.now bad.start (setup.now.rate + 1) tints.now }
+    ensures { IfOk result (λ parts. AreParts scene.now setup.now cuts.now bad.start bad.x bad.y parts.items) }
+{
+    let mut parts = Vec::new(alloc);
+    for number in 0..cuts.cells() {
+        add_part(&mut parts, scene, setup, cuts, tints, bad, number)?;
+    }
+    Ok(parts)
+}
+
+/// The parts of all cells. The states of the layers are worked out once a frame.
 fn parts_of(
     alloc: Global,
     scene: &Scene,
@@ -53,11 +78,9 @@ fn parts_of(
     requires cut { AreCutsOf scene.now setup.now bad.start cuts.now }
     ensures { IfOk result (λ parts. AreParts scene.now setup.now cuts.now bad.start bad.x bad.y parts.items) }
 {
-    let mut parts = Vec::new(alloc);
-    for number in 0..cuts.cells() {
-        add_part(&mut parts, scene, setup, cuts, bad, number)?;
-    }
-    Ok(parts)
+    let frames = u32::from(setup.rate()) + 1;
+    let tints = tints_of_cells(alloc, scene, setup, cuts, bad.start, frames)?;
+    parts_by(alloc, scene, setup, cuts, tints.as_slice(), bad)
 }
 
 /// How many pixels parts have.
@@ -74,7 +97,7 @@ fn area_of(parts: &[Part]) -> u32
 
 /// The witness of a window that is surely bad at its position: the setup's numbers, the window, and for each cell that is surely
 /// flagged and meets the rectangle a part, cut to it, in the order of cells. Its area is the number of surely flagged pixels in the
-/// rectangle, and it meets all conditions of a witness. The cuts are the scene's in frames that cover the window.
+/// rectangle, it meets all conditions of a witness, and it is in form. The cuts are the scene's in frames that cover the window.
 ///
 /// # Errors
 ///

@@ -1,12 +1,10 @@
 // The tints of a cell in a window, and the nine turns that a part tells of them.
-ghost use Rattle.std.specs.Prelude.{◌≡◌, ◌+◌, ◌^◌, ◌<◌, ◌≤◌, length, All};
-ghost use Rattle.page_model.specs.ValidScene.{IsValid};
-ghost use Rattle.frame_state.specs.Scenes.{CanBePainted};
-ghost use Rattle.witness_make.specs.Turns.{AreTintsFrom, TellsTrace};
+ghost use Rattle.std.specs.Prelude.{◌≡◌, ◌+◌, ◌*◌, ◌^◌, ◌<◌, ◌≤◌, length, All};
+ghost use Rattle.page_model.specs.ValidScene.{IsColour};
+ghost use Rattle.witness_make.specs.Turns.{ArePicked, AreOfBytes, TellsTrace};
 
 use flash_count::Trace;
-use page_model::{Part, Rgb, Scene, Setup, Tint};
-use paint_blend::tint;
+use page_model::{Part, Rgb, Tint};
 use region_split::Rect;
 
 const WHITE: Rgb = Rgb {
@@ -24,18 +22,24 @@ pub(crate) const NO_TINT: Tint = Tint {
 /// How many turns a part tells.
 const TURNS: usize = 9;
 
-/// Writes the tints of a pixel in the frames of a window.
-pub(crate) fn see(scene: &Scene, setup: &Setup, start: u32, x: u16, y: u16, tints: &mut [Tint])
-    requires valid { IsValid scene.now }
-    requires painted { CanBePainted scene.now }
-    requires frames { start + length tints.old ≤ 2 ^ 32 }
-    requires whole { length tints.old ≡ setup.now.rate + 1 }
-    ensures whole { length tints.new ≡ setup.now.rate + 1 }
-    ensures tints { AreTintsFrom scene.now setup.now start x y tints.new }
+/// Writes the tints of a cell, of those of all cells: frame by frame, and of each frame cell by cell.
+pub(crate) fn see(all: &[Tint], cells: u32, number: u32, tints: &mut [Tint])
+    requires known { number < cells }
+    requires all { length all.now ≡ cells * length tints.old }
+    ensures whole { length tints.new ≡ length tints.old }
+    ensures picked { ArePicked all.now cells number tints.new }
 {
     for k in 0..tints.len() {
-        tints[k] = tint(scene, setup, u64::from(start) + k as u64, x, y);
+        tints[k] = all[k * cells as usize + number as usize];
     }
+}
+
+/// A tint as it is: its channels are bytes.
+fn kept(tint: Tint) -> Tint
+    ensures same { result ≡ tint }
+    ensures bytes { IsColour result.hi }
+{
+    tint
 }
 
 /// The part of a rectangle whose pixels have these tints, with the frames and tints of a trace.
@@ -47,13 +51,14 @@ pub(crate) fn told(rect: Rect, start: u32, trace: Trace, tints: &[Tint]) -> Part
     ensures width { result.width ≡ rect.width }
     ensures height { result.height ≡ rect.height }
     ensures tells { TellsTrace start tints.now trace result }
+    ensures bytes { AreOfBytes result.tints }
 {
     let mut frames = [0; TURNS];
     let mut told = [NO_TINT; TURNS];
     for turn in 0..TURNS {
         let place = trace.places[turn];
         frames[turn] = start + u32::from(place);
-        told[turn] = tints[place as usize];
+        told[turn] = kept(tints[place as usize]);
     }
     Part {
         x: rect.x,

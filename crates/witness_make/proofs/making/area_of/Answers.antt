@@ -1,6 +1,6 @@
 -- So many pixels so far.
 use Rattle.std.proofs.Common.{arith}
-use Rattle.witness_make.proofs.AreaLemmas.{sum-fits}
+use Rattle.witness_make.proofs.CellLemmas.{sum-fits}
 use Rattle.witness_make.proofs.making.area_of.Goals as goal
 
 pub overflow_add-area : goal.overflow_add-area

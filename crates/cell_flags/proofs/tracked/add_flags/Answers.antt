@@ -1,0 +1,19 @@
+-- One window more.
+use Rattle.std.proofs.Common.{◌≡◌, ◌+◌, ◌*◌, ap, arith, rules, slice_get, subst, ◌∙◌}
+use Rattle.cell_flags.specs.Flags.{IsTracking}
+use Rattle.cell_flags.proofs.TrackLemmas.{adds-more, flag-at, tracking-more}
+use Rattle.cell_flags.proofs.tracked.add_flags.Goals as goal
+
+pub loop-start-preserved : goal.loop-start-preserved
+loop-start-preserved c =
+    let frame : c.loop-start.start + c.args.rate ≡ c.loop-start.start + c.from.result = omega (arith, c.from.ensures) in
+    let tracking = tracking-more c.args.tints.now c.args.cells c.args.cell c.args.rate (c.loop-start.start + c.args.rate) c.loop-start.tracker
+    c.push.new.self c.tint_at.result c.loop-start.invariant.tracking c.push.ensures
+    (ap (λ n. slice_get c.args.tints.now (n * c.args.cells + c.args.cell)) frame ∙ c.tint_at.ensures) in
+    let next : c.loop-start.start + c.args.rate + 1 ≡ c.loop-start.start + 1 + c.args.rate = omega arith in record {
+      tracking = subst (λ n. IsTracking c.args.tints.now c.args.cells c.args.cell c.args.rate n c.push.new.self) next tracking;
+      added = adds-more c.args.tints.now c.args.cells c.args.cell c.args.rate c.loop-start.start c.args.flags.now.items
+          c.loop-start.flags.items c.push-in-loop-start.new.self.items c.flagged.result c.loop-start.invariant.added (search rules)
+          (flag-at c.args.tints.now c.args.cells c.args.cell c.args.rate c.loop-start.start c.push.new.self c.flagged.result tracking
+          c.flagged.ensures.possible c.flagged.ensures.sure);
+    }

@@ -1,0 +1,3 @@
+mod ExampleLemmas
+pub mod ListLemmas
+pub mod TintLemmas

@@ -1,0 +1,33 @@
+-- The tints of cells, as those of each cell's first pixel, frame by frame. A tint is by the own kind of enclosure, whatever the states
+-- are of which it comes. This is the project's own.
+use Rattle.std.specs.Prelude.{ℕ, ◌≡◌, ◌+◌, ◌*◌, ◌<◌, List, length, slice_get, Some}
+use Rattle.page_model.specs.declared.colour.Tint.{Tint}
+use Rattle.page_model.specs.declared.scene.Scene.{Scene}
+use Rattle.page_model.specs.declared.setup.Setup.{Setup}
+use Rattle.page_model.specs.Cells.{cells_between}
+use Rattle.page_model.specs.Change.{IsSingle}
+use Rattle.page_model.specs.Enclosure.{LooseState}
+use Rattle.page_model.specs.TintOf.{tint_of}
+use Rattle.frame_state.specs.States.{AreOwn}
+use Rattle.region_split.specs.Cutting.{Edges, cell_of}
+
+-- a tint is that of a pixel in a frame, by states of the own kind, and one colour
+pub record IsOwnTint (scene : Scene) (setup : Setup) (frame column row : ℕ) (tint : Tint) : Type 0 where
+  pub states : ℕ → LooseState
+  pub own_states : AreOwn scene setup frame states
+  pub is : tint ≡ tint_of scene states column row
+  pub is_single : IsSingle tint
+
+-- how many cells there are
+abbrev pub cells_of : Edges → ℕ
+cells_of edges = cells_between edges.xs edges.ys
+
+-- so many tints are those of cells in the frames from a start on: frame by frame, and of each frame cell by cell
+pub record AreTintsBefore (scene : Scene) (setup : Setup) (edges : Edges) (start count : ℕ) (tints : List Tint) : Type 0 where
+  pub all : length tints ≡ count
+  pub each : (k i : ℕ) (tint : Tint) → i < cells_of edges → slice_get tints (k * cells_of edges + i) ≡ Some tint
+      → IsOwnTint scene setup (start + k) (cell_of edges.xs edges.ys i).x (cell_of edges.xs edges.ys i).y tint
+
+-- tints are those of all cells in so many frames from a start on
+abbrev pub AreTintsOfCells : Scene → Setup → Edges → ℕ → ℕ → List Tint → Type 0
+AreTintsOfCells scene setup edges start frames tints = AreTintsBefore scene setup edges start (cells_of edges * frames) tints

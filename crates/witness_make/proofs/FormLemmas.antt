@@ -1,0 +1,131 @@
+-- What is made is in form: its numbers fit their types, and each of its tints is one colour.
+use Rattle.std.proofs.Common.{◌≡◌, ◌∙◌, ℕ, ◌+◌, ◌<◌, ◌≤◌, FitsSigned, length, get_or, ap, arith, subst, sym}
+use Rattle.std.specs.Prelude.{All, ℤ, pos, negsuc, ◌≤ℤ◌, sum_by}
+use Rattle.std.specs.Int.{w32}
+use Rattle.std.proofs.lemmas.Int.{ints}
+use Rattle.std.proofs.lemmas.Option.{get_or_from_slice_get, slice_get-get_or}
+use Rattle.page_model.specs.declared.colour.Rgb.{Rgb}
+use Rattle.page_model.specs.declared.colour.Tint.{Tint}
+use Rattle.page_model.specs.declared.scene.Scene.{Scene}
+use Rattle.page_model.specs.declared.setup.Setup.{Setup}
+use Rattle.page_model.specs.declared.witness.Part.{Part}
+use Rattle.page_model.specs.declared.witness.Witness.{Witness}
+use Rattle.page_model.specs.Cells.{cells_between}
+use Rattle.page_model.specs.Change.{IsSingle}
+use Rattle.page_model.specs.Time.{window_of}
+use Rattle.page_model.specs.ValidScene.{IsColour}
+use Rattle.page_model.specs.WitnessConditions.{HasSetup}
+use Rattle.region_split.specs.declared.types.Rect.{Rect}
+use Rattle.region_split.specs.Cutting.{Edges, cell_of}
+use Rattle.sweep.proofs.SideLemmas.{AreSides}
+use Rattle.witness_laws.proofs.AreaLemmas.{size_of}
+use Rattle.witness_make.proofs.MadeLemmas.{AreMadeOf, all-parts, area-fits, lies-inside, sides-of}
+use Rattle.witness_make.proofs.TurnLemmas.{frames-within, place-within}
+use Rattle.witness_make.specs.Made.{AreCutsOf, IsPartOf}
+use Rattle.witness_make.specs.Turns.{no_tint}
+use Rattle.witness_text.specs.WitnessForm.{IsInForm, IsPartInForm, IsTintInForm, word_limit}
+
+-- a tint of one colour is in form
+single-form : (tint : Tint) → IsSingle tint → IsColour tint.hi → IsTintInForm tint
+single-form tint single fits =
+    let red : tint.lo.r ≡ tint.hi.r = ap (λ (c : Rgb). c.r) single in
+    let green : tint.lo.g ≡ tint.hi.g = ap (λ (c : Rgb). c.g) single in
+    let blue : tint.lo.b ≡ tint.hi.b = ap (λ (c : Rgb). c.b) single in
+    let high_red = fits.red in
+    let high_green = fits.green in
+    let high_blue = fits.blue in
+    record {
+      red = record { ordered = omega (arith, red); fit = omega (arith, high_red) };
+      green = record { ordered = omega (arith, green); fit = omega (arith, high_green) };
+      blue = record { ordered = omega (arith, blue); fit = omega (arith, high_blue) };
+    }
+
+-- and each tint of a part is one
+tints-form : (scene : Scene) (setup : Setup) (start : ℕ) (x y : ℤ) (cell : Rect) (part : Part) → IsPartOf scene setup start x y cell part
+    → All IsTintInForm part.tints
+tints-form scene setup start x y cell part of k d below =
+    let told = of.tells in
+    let nine = told.tells.nine_tints in
+    let whole = told.whole in
+    let turn : k < 9 = omega (arith, nine) in
+    let place : ℕ = get_or told.trace.places k 0 in
+    let place_below : place < length told.tints = place-within told.tints told.trace k (omega (arith, whole)) told.first turn in
+    let same : get_or part.tints k no_tint ≡ get_or told.tints place no_tint = told.tells.turns.tints_are k turn in
+    let single : IsSingle (get_or part.tints k no_tint) =
+    subst (λ (t : Tint). IsSingle t) (sym same) (told.own_tints place place_below).is_single in
+    let fits : IsColour (get_or part.tints k no_tint).hi = of.bytes k no_tint below in
+    let here : get_or part.tints k no_tint ≡ get_or part.tints k d =
+    get_or_from_slice_get part.tints k (get_or part.tints k d) no_tint (slice_get-get_or part.tints k d below) in
+    subst (λ (t : Tint). IsTintInForm t) here (single-form (get_or part.tints k no_tint) single fits)
+
+-- its frames lie in the window, whose frames can be counted
+frames-form : (scene : Scene) (setup : Setup) (edges : Edges) (start : ℕ) (x y : ℤ) (cell : Rect) (part : Part) → AreCutsOf scene setup start edges
+    → IsPartOf scene setup start x y cell part → All (λ k. k < word_limit) part.frames
+frames-form scene setup edges start x y cell part cuts of k d below =
+    let told = of.tells in
+    let within = frames-within start (window_of setup) told.tints told.trace part told.whole told.first told.tells k d below in
+    let last = within.1 in
+    let cover = cuts.cover in
+    let few = cuts.few in
+    omega (arith, last, cover, few)
+
+-- the sides of a viewport are at most so long
+wide-at_most : (setup : Setup) (edges : Edges) → AreSides setup edges → (setup.width ≤ 4096) × (setup.height ≤ 4096)
+wide-at_most setup edges sides =
+    let columns = sides.columns.limit in
+    let rows = sides.rows.limit in
+    (omega (arith, columns, sides.width), omega (arith, rows, sides.height))
+
+part-form : (scene : Scene) (setup : Setup) (edges : Edges) (number : ℕ) (w : Witness) (part : Part) → AreCutsOf scene setup w.start edges
+    → number < cells_between edges.xs edges.ys → IsPartOf scene setup w.start w.x w.y (cell_of edges.xs edges.ys number) part → IsPartInForm part
+part-form scene setup edges number w part cuts known of =
+    let sides = sides-of scene setup edges w.start cuts in
+    let most = wide-at_most setup edges sides in
+    let lies = lies-inside setup edges number w part sides known of.cut in
+    let across = lies.in_width in
+    let down = lies.in_height in
+    let wide = most.0 in
+    let high = most.1 in
+    record {
+      x = omega (arith, across, wide);
+      y = omega (arith, down, high);
+      width = omega (arith, across, wide);
+      height = omega (arith, down, high);
+      turns = record { frames = of.tells.tells.nine_frames; tints = of.tells.tells.nine_tints };
+      frames = frames-form scene setup edges w.start w.x w.y (cell_of edges.xs edges.ys number) part cuts of;
+      tints = tints-form scene setup w.start w.x w.y (cell_of edges.xs edges.ys number) part of;
+    }
+
+-- a number of 32 bits
+pub signed-least : (z : ℤ) → FitsSigned w32 z → negsuc 2147483647 ≤ℤ z
+signed-least z fits = omega (arith, ints)
+
+pub signed-greatest : (z : ℤ) → FitsSigned w32 z → z ≤ℤ pos 2147483647
+signed-greatest z fits = omega (arith, ints)
+
+pub form-is : (scene : Scene) (setup : Setup) (edges : Edges) (w : Witness) → AreMadeOf scene setup edges w.start w.x w.y w.parts
+    → HasSetup setup w → w.area ≡ sum_by size_of w.parts → setup.rate ≤ 240 → FitsSigned w32 w.x → FitsSigned w32 w.y → IsInForm w
+form-is scene setup edges w made same area_is slow x_fits y_fits =
+    let cuts = made.cuts in
+    let cover = cuts.cover in
+    let few = cuts.few in
+    let most = wide-at_most setup edges (sides-of scene setup edges w.start cuts) in
+    let wide = most.0 in
+    let high = most.1 in
+    let fits = area-fits scene setup edges w.start w.x w.y w.parts made.valid cuts made.parts_are in
+    let width_is = same.width in
+    let height_is = same.height in
+    let rate_is = same.rate in
+    record {
+      width = omega (arith, width_is, wide);
+      height = omega (arith, height_is, high);
+      rate = omega (arith, rate_is, slow);
+      start = omega (arith, cover, few);
+      area = omega (arith, area_is, fits);
+      x_least = signed-least w.x x_fits;
+      x_greatest = signed-greatest w.x x_fits;
+      y_least = signed-least w.y y_fits;
+      y_greatest = signed-greatest w.y y_fits;
+      parts = all-parts scene setup edges w.start w.x w.y w.parts IsPartInForm made (λ number part known of.
+          part-form scene setup edges number w part cuts known of);
+    }
