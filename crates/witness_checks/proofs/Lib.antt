@@ -1,0 +1,8 @@
+pub mod ExampleLemmas
+pub mod FirstLemmas
+pub mod JudgementLemmas
+mod KeptLemmas
+pub mod OverlapLemmas
+pub mod RedLemmas
+mod TintLemmas
+pub mod TurnLemmas

@@ -1,0 +1,7 @@
+pub mod ExamplePage
+pub mod Faults
+pub mod Judgement
+pub mod Kept
+pub mod OwnTints
+pub mod Places
+pub mod Turns

@@ -1,0 +1,26 @@
+//! The checker of witnesses: whether a stated bad window is one.
+//!
+//! Whoever is handed a witness asks [`accepts`]. It tests nine conditions one after another, each over all parts before the next
+//! one, and trusts nothing that is stated: it computes the states of the page's layers in each stated frame, and paints each stated
+//! pixel. It stands on nothing of the judge, neither its cells nor its sweep, and takes no memory. The key clauses: Ok comes exactly
+//! where all nine conditions hold, and then the window is bad at the stated position; a fault is the first condition that fails, at the
+//! first place where it does.
+//!
+//! How a witness is written and read is `flash_witness`'s to say. Red flashes aren't judged yet: a part of that kind is refused, which
+//! is right in scenes without colours.
+#![tactic(auto)]
+
+mod accepting;
+mod area;
+mod change;
+mod fault;
+mod frames;
+mod kept;
+mod overlap;
+mod place;
+#[cfg(test)]
+mod tests;
+mod tints;
+
+pub use accepting::accepts;
+pub use fault::WitnessFault;

@@ -1,0 +1,7 @@
+pub mod CountLemmas
+pub mod FormLemmas
+pub mod Hex
+pub mod LookLemmas
+pub mod NewlineLemmas
+pub mod ReadLemmas
+pub mod Shape

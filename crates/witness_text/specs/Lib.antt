@@ -1,0 +1,5 @@
+pub mod TintText
+pub mod PartValue
+pub mod WitnessText
+pub mod WitnessForm
+pub mod Look
