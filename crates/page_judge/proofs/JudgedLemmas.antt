@@ -1,0 +1,74 @@
+-- What the verdict of a sweep says of its scene.
+use Rattle.std.proofs.Common.{◌≡◌, ℕ, ℤ, refl, subst, sym}
+use Rattle.std.specs.Prelude.{Bool, true, false, not, ◌&&◌, IsTrue}
+use Rattle.std.proofs.lemmas.Bool.{and_parts}
+use Rattle.page_model.specs.declared.scene.Scene.{Scene}
+use Rattle.page_model.specs.declared.witness.Witness.{Witness}
+use Rattle.page_model.specs.Enclosure.{LooseRun, own}
+use Rattle.page_model.specs.TintOf.{IsLooseRunIn, tints_of}
+use Rattle.page_model.specs.Window.{IsSurelyBad, IsSurelyFlagged}
+use Rattle.frame_state.specs.Scenes.{CanBePainted, can_be_painted, is_coloured, is_endless}
+use Rattle.witness_laws.proofs.WitnessLemmas.{accepted_is_bad}
+use Rattle.witness_make.specs.Made.{IsMade}
+use Rattle.sweep.specs.declared.types.Reason.{Reason}
+use Rattle.sweep.specs.declared.types.Reason.TheVariants as reason
+use Rattle.sweep.specs.declared.types.Verdict.TheVariants.{Undecided}
+use Rattle.sweep.specs.Verdicts as verdict
+use Rattle.sweep.specs.Marks.{CountsFlagged}
+use Rattle.sweep.specs.Verdicts.{IsFirstBad, IsReady, IsSureMost, Judged, NoneIn}
+use Rattle.page_judge.specs.Judgement.{IsFail, IsJudgement, IsWithinBounds, can_be_judged, judgement_for}
+
+-- what can be judged can be painted, and is grey
+pub painted-of : (scene : Scene) → IsTrue (can_be_judged scene) → CanBePainted scene
+painted-of scene is = (and_parts (can_be_painted scene) _ is).0
+
+grey-if : (endless coloured : Bool) → IsTrue (not endless && not coloured) → coloured ≡ false
+grey-if true coloured is = absurd (cc)
+grey-if false true is = absurd (cc)
+grey-if false false is = refl
+
+pub grey-of : (scene : Scene) → IsTrue (can_be_judged scene) → is_coloured scene ≡ false
+grey-of scene is = grey-if (is_endless scene) (is_coloured scene) (and_parts (can_be_painted scene) _ is).1
+
+-- what a sweep opens with
+pub bounds-of : (judged : Judged) → IsReady judged → IsTrue (can_be_judged judged.scene)
+    → IsWithinBounds judged.scene judged.setup judged.needed
+bounds-of judged ready is =
+    record { judged = is; is_needed = ready.is_needed; few = ready.few; cuts = judged.cuts; cut = ready.cut }
+
+-- what holds at a place holds at the witness's, which is the same
+at-witness : (P : ℕ → ℤ → ℤ → Type 0) (start : ℕ) (x y : ℤ) (w : Witness) → w.start ≡ start → w.x ≡ x → w.y ≡ y → P start x y
+    → P w.start w.x w.y
+at-witness P start x y w start_is x_is y_is here =
+    subst (λ (s : ℕ). P s w.x w.y) (sym start_is)
+    (subst (λ (v : ℤ). P start v w.y) (sym x_is) (subst (λ (v : ℤ). P start x v) (sym y_is) here))
+
+-- the witness that is made
+pub fail-of : (judged : Judged) (start : ℕ) (x y : ℤ) (w : Witness) → IsReady judged → IsTrue (can_be_judged judged.scene)
+    → verdict.IsFail judged.scene judged.setup judged.needed start x y
+    → IsMade judged.scene judged.setup judged.cuts start x y w → IsFail judged.scene judged.setup w
+fail-of judged start x y w ready is failed made = record {
+  needed = judged.needed;
+  bounds = bounds-of judged ready is;
+  first = at-witness (IsFirstBad (IsSurelyBad own judged.scene judged.setup) judged.needed) start x y w made.start_is made.x_is made.y_is failed.first;
+  most = at-witness (IsSureMost judged.scene judged.setup) start x y w made.start_is made.x_is made.y_is failed.most;
+  counts = at-witness (λ (s : ℕ) (a b : ℤ). (run : LooseRun) → IsLooseRunIn own judged.scene judged.setup s run
+      → CountsFlagged (IsSurelyFlagged own (tints_of judged.scene run) judged.setup s) judged.setup a b w.area)
+      start x y w made.start_is made.x_is made.y_is made.counts;
+  accepted = made.witness;
+  form = made.form;
+  bad = accepted_is_bad judged.scene judged.setup w ready.valid made.witness;
+}
+
+-- a reason, which is an enclosure
+pub undecided-of : (judged : Judged) (why : Reason) → IsReady judged → IsTrue (can_be_judged judged.scene)
+    → verdict.IsVerdict judged.scene judged.setup judged.needed (Undecided why) → IsJudgement judged.scene judged.setup (judgement_for why)
+undecided-of judged reason.Frames ready is told = absurd told
+undecided-of judged (reason.Work cells frames) ready is told = absurd told
+undecided-of judged (reason.Enclosure start x y) ready is told = record {
+  needed = judged.needed;
+  bounds = bounds-of judged ready is;
+  none_surely = told.none_surely;
+  first = told.first;
+  most = told.most;
+}

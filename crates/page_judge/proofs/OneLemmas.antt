@@ -1,0 +1,183 @@
+-- The answers exclude each other.
+use Rattle.std.proofs.Common.{◌≡◌, ℕ, ℤ, ◌*◌, ◌<◌, ◌≤◌, List, arith, subst, sym}
+use Rattle.std.specs.Prelude.{false, IsTrue}
+use Rattle.page_model.specs.declared.animation.Anim.{Anim}
+use Rattle.page_model.specs.declared.scene.Scene.{Scene}
+use Rattle.page_model.specs.declared.setup.Setup.{Setup}
+use Rattle.page_model.specs.declared.witness.Witness.{Witness}
+use Rattle.page_model.specs.Cells.{cells_between, work_limit}
+use Rattle.page_model.specs.Enclosure.{LooseRun, own}
+use Rattle.page_model.specs.Horizon.{IsNeeded, all_animations, frames_for}
+use Rattle.page_model.specs.TintOf.{IsLooseRunIn, tints_of}
+use Rattle.page_model.specs.Window.{IsPossiblyBad, IsPossiblyFlagged, IsSurelyBad, IsSurelyFlagged}
+use Rattle.horizon_laws.proofs.LeastLemmas.{IsLeast-unique}
+use Rattle.period_frames.specs.Needed.{NeedsMore}
+use Rattle.region_split.specs.Cutting.{Edges, IsCut, IsWork}
+use Rattle.sweep.specs.Marks.{CountsFlagged}
+use Rattle.sweep.specs.Verdicts.{IsFirstBad, IsPossibleMost, IsSureMost, IsTooMuch, NoneIn}
+use Rattle.wide_laws.proofs.LooseLemmas.{loose_run-met}
+use Rattle.page_judge.specs.declared.types.Judgement.TheVariants.{NotYet, Pass, Fail, Frames, Work, Enclosure}
+use Rattle.page_judge.specs.Judgement.{IsEnclosed, IsFail, IsPass, IsPastFrames, IsPastWork, IsWithinBounds, OneJudgement, TellSame, can_be_judged}
+use Rattle.page_judge.proofs.CellLemmas.{cells-same}
+use Rattle.page_judge.proofs.PlaceLemmas.{counts-same, places-same, start-unique}
+
+needed-unique : (setup : Setup) (anims : List Anim) (one other : ℕ) → IsNeeded setup anims one → IsNeeded setup anims other → one ≡ other
+needed-unique setup anims one other first second =
+    let settled = IsLeast-unique _ _ _ first.horizon.settled_is second.horizon.settled_is in
+    let period = IsLeast-unique _ _ _ first.horizon.period_is second.horizon.period_is in
+    let sum = first.needed_is in
+    let again = second.needed_is in
+    omega arith
+
+-- so many windows are more than are looked at, or not
+few-more : (setup : Setup) (anims : List Anim) (needed : ℕ) → IsNeeded setup anims needed → needed ≤ 100000 → NeedsMore setup anims → ⊥
+few-more setup anims needed is few more =
+    let same = needed-unique setup anims needed more.needed is more.is_needed in
+    omega (arith, same, few, more.many)
+
+-- cells times frames are too many, or not
+product-apart : (one other frames limit : ℕ) → one ≡ other → one * frames ≤ limit → limit < other * frames → ⊥
+product-apart one other frames limit same few many =
+    let less : limit < one * frames = subst (λ (n : ℕ). limit < n * frames) (sym same) many in
+    omega (arith, few, less)
+
+cut-work : (scene : Scene) (setup : Setup) (frames cells : ℕ) (edges : Edges) → IsCut scene setup frames edges → IsWork scene setup frames cells → ⊥
+cut-work scene setup frames cells edges cut work =
+    let same = cells-same scene setup frames edges.xs edges.ys work.xs work.ys cut.cuts work.cuts in
+    let told : cells_between edges.xs edges.ys ≡ cells = omega (arith, same, work.cells_are) in
+    product-apart (cells_between edges.xs edges.ys) cells frames work_limit told cut.few_enough work.too_many
+
+bounds-much : (scene : Scene) (setup : Setup) (needed cells frames : ℕ) → IsWithinBounds scene setup needed → IsTooMuch scene setup cells frames → ⊥
+bounds-much scene setup needed cells frames bounds much =
+    let same = needed-unique setup (all_animations scene) much.needed needed much.is_needed bounds.is_needed in
+    let work : IsWork scene setup (frames_for setup needed) cells =
+    subst (λ (n : ℕ). IsWork scene setup (frames_for setup n) cells) same
+    (subst (λ (n : ℕ). IsWork scene setup n cells) much.frames_are much.work) in
+    cut-work scene setup (frames_for setup needed) cells bounds.cuts bounds.cut work
+
+much-same : (scene : Scene) (setup : Setup) (cells frames other_cells others : ℕ) → IsTooMuch scene setup cells frames
+    → IsTooMuch scene setup other_cells others → (cells ≡ other_cells) × (frames ≡ others)
+much-same scene setup cells frames other_cells others one other =
+    let needed = needed-unique setup (all_animations scene) one.needed other.needed one.is_needed other.is_needed in
+    let same : frames ≡ others = omega (arith, needed, one.frames_are, other.frames_are) in
+    let work : IsWork scene setup frames other_cells = subst (λ (n : ℕ). IsWork scene setup n other_cells) (sym same) other.work in
+    let cells_are = cells-same scene setup frames one.work.xs one.work.ys work.xs work.ys one.work.cuts work.cuts in
+    (omega (arith, cells_are, one.work.cells_are, work.cells_are), same)
+
+-- one of the windows that are looked at is bad, or none is
+none-first : (Bad : ℕ → ℤ → ℤ → Type 0) (scene : Scene) (setup : Setup) (needed others start : ℕ) (x y : ℤ) → IsWithinBounds scene setup needed
+    → IsWithinBounds scene setup others → NoneIn Bad needed → IsFirstBad Bad others start x y → ⊥
+none-first Bad scene setup needed others start x y one other none first =
+    let same = needed-unique setup (all_animations scene) needed others one.is_needed other.is_needed in
+    none start x y (omega (arith, same, first.before)) first.bad
+
+-- one witness, and one enclosure
+sure-place : (scene : Scene) (setup : Setup) (start other_start : ℕ) (x y other_x other_y : ℤ) → start ≡ other_start
+    → IsSureMost scene setup start x y → IsSureMost scene setup other_start other_x other_y → (x ≡ other_x) × (y ≡ other_y)
+sure-place scene setup start other_start x y other_x other_y same one other =
+    places-same (IsLooseRunIn own scene setup start) (λ run. IsSurelyFlagged own (tints_of scene run) setup start) setup x y other_x other_y
+    (loose_run-met own scene setup start) one
+    (subst (λ (s : ℕ). IsSureMost scene setup s other_x other_y) (sym same) other)
+
+possible-place : (scene : Scene) (setup : Setup) (start other_start : ℕ) (x y other_x other_y : ℤ) → start ≡ other_start
+    → IsPossibleMost scene setup start x y → IsPossibleMost scene setup other_start other_x other_y → (x ≡ other_x) × (y ≡ other_y)
+possible-place scene setup start other_start x y other_x other_y same one other =
+    places-same (IsLooseRunIn own scene setup start) (λ run. IsPossiblyFlagged own (tints_of scene run) setup start) setup x y other_x other_y
+    (loose_run-met own scene setup start) one
+    (subst (λ (s : ℕ). IsPossibleMost scene setup s other_x other_y) (sym same) other)
+
+abbrev AreCounted : Scene → Setup → ℕ → ℤ → ℤ → ℕ → Type 0
+AreCounted scene setup start x y count =
+    (run : LooseRun) → IsLooseRunIn own scene setup start run
+    → CountsFlagged (IsSurelyFlagged own (tints_of scene run) setup start) setup x y count
+
+sure-count : (scene : Scene) (setup : Setup) (start other_start : ℕ) (x y other_x other_y : ℤ) (count others : ℕ) → start ≡ other_start
+    → x ≡ other_x → y ≡ other_y → AreCounted scene setup start x y count → AreCounted scene setup other_start other_x other_y others → count ≡ others
+sure-count scene setup start other_start x y other_x other_y count others same across down one other =
+    counts-same (IsLooseRunIn own scene setup start) (λ run. IsSurelyFlagged own (tints_of scene run) setup start) setup x y count others
+    (loose_run-met own scene setup start) one
+    (subst (λ (s : ℕ). AreCounted scene setup s x y others) (sym same)
+    (subst (λ (v : ℤ). AreCounted scene setup other_start v y others) (sym across)
+    (subst (λ (v : ℤ). AreCounted scene setup other_start other_x v others) (sym down) other)))
+
+fails-same : (scene : Scene) (setup : Setup) (w other : Witness) → IsFail scene setup w → IsFail scene setup other → TellSame w other
+fails-same scene setup w other one two =
+    let start = start-unique (IsSurelyBad own scene setup) one.needed two.needed w.start other.start w.x w.y other.x other.y one.first two.first in
+    let place = sure-place scene setup w.start other.start w.x w.y other.x other.y start one.most two.most in
+    record {
+      start = start;
+      x = place.0;
+      y = place.1;
+      area = sure-count scene setup w.start other.start w.x w.y other.x other.y w.area other.area start place.0 place.1 one.counts two.counts;
+    }
+
+encloses-same : (scene : Scene) (setup : Setup) (start other_start : ℕ) (x y other_x other_y : ℤ) → IsEnclosed scene setup start x y
+    → IsEnclosed scene setup other_start other_x other_y → (start ≡ other_start) × (x ≡ other_x) × (y ≡ other_y)
+encloses-same scene setup start other_start x y other_x other_y one other =
+    let same = start-unique (IsPossiblyBad own scene setup) one.needed other.needed start other_start x y other_x other_y one.first other.first in
+    let place = possible-place scene setup start other_start x y other_x other_y same one.most other.most in
+    (same, place.0, place.1)
+
+-- what excludes what
+not_yet-judged : (scene : Scene) → can_be_judged scene ≡ false → IsTrue (can_be_judged scene) → ⊥
+not_yet-judged scene e t = cc
+
+bounds-frames : (scene : Scene) (setup : Setup) (needed : ℕ) → IsWithinBounds scene setup needed → IsPastFrames scene setup → ⊥
+bounds-frames scene setup needed bounds past =
+    few-more setup (all_animations scene) needed bounds.is_needed bounds.few past.more
+
+work-frames : (scene : Scene) (setup : Setup) (cells frames : ℕ) → IsPastWork scene setup cells frames → IsPastFrames scene setup → ⊥
+work-frames scene setup cells frames work past =
+    few-more setup (all_animations scene) work.much.needed work.much.is_needed work.much.few past.more
+
+pass-fail : (scene : Scene) (setup : Setup) (frames : ℕ) (w : Witness) → IsPass scene setup frames → IsFail scene setup w → ⊥
+pass-fail scene setup frames w pass fail =
+    none-first (IsSurelyBad own scene setup) scene setup frames fail.needed w.start w.x w.y pass.bounds fail.bounds pass.none_surely fail.first
+
+pass-enclosed : (scene : Scene) (setup : Setup) (frames start : ℕ) (x y : ℤ) → IsPass scene setup frames → IsEnclosed scene setup start x y → ⊥
+pass-enclosed scene setup frames start x y pass enclosed =
+    none-first (IsPossiblyBad own scene setup) scene setup frames enclosed.needed start x y pass.bounds enclosed.bounds pass.none_possibly enclosed.first
+
+fail-enclosed : (scene : Scene) (setup : Setup) (w : Witness) (start : ℕ) (x y : ℤ) → IsFail scene setup w → IsEnclosed scene setup start x y → ⊥
+fail-enclosed scene setup w start x y fail enclosed =
+    none-first (IsSurelyBad own scene setup) scene setup enclosed.needed fail.needed w.start w.x w.y enclosed.bounds fail.bounds enclosed.none_surely fail.first
+
+pub one-judgement : OneJudgement
+one-judgement scene setup NotYet NotYet one other = tt
+one-judgement scene setup NotYet (Pass frames) one other = not_yet-judged scene one other.bounds.judged
+one-judgement scene setup NotYet (Fail w) one other = not_yet-judged scene one other.bounds.judged
+one-judgement scene setup NotYet Frames one other = not_yet-judged scene one other.judged
+one-judgement scene setup NotYet (Work cells frames) one other = not_yet-judged scene one other.judged
+one-judgement scene setup NotYet (Enclosure start x y) one other = not_yet-judged scene one other.bounds.judged
+one-judgement scene setup (Pass frames) NotYet one other = not_yet-judged scene other one.bounds.judged
+one-judgement scene setup (Pass frames) (Pass others) one other =
+    needed-unique setup (all_animations scene) frames others one.bounds.is_needed other.bounds.is_needed
+one-judgement scene setup (Pass frames) (Fail w) one other = pass-fail scene setup frames w one other
+one-judgement scene setup (Pass frames) Frames one other = bounds-frames scene setup frames one.bounds other
+one-judgement scene setup (Pass frames) (Work cells others) one other = bounds-much scene setup frames cells others one.bounds other.much
+one-judgement scene setup (Pass frames) (Enclosure start x y) one other = pass-enclosed scene setup frames start x y one other
+one-judgement scene setup (Fail w) NotYet one other = not_yet-judged scene other one.bounds.judged
+one-judgement scene setup (Fail w) (Pass frames) one other = pass-fail scene setup frames w other one
+one-judgement scene setup (Fail w) (Fail v) one other = fails-same scene setup w v one other
+one-judgement scene setup (Fail w) Frames one other = bounds-frames scene setup one.needed one.bounds other
+one-judgement scene setup (Fail w) (Work cells frames) one other = bounds-much scene setup one.needed cells frames one.bounds other.much
+one-judgement scene setup (Fail w) (Enclosure start x y) one other = fail-enclosed scene setup w start x y one other
+one-judgement scene setup Frames NotYet one other = not_yet-judged scene other one.judged
+one-judgement scene setup Frames (Pass frames) one other = bounds-frames scene setup frames other.bounds one
+one-judgement scene setup Frames (Fail w) one other = bounds-frames scene setup other.needed other.bounds one
+one-judgement scene setup Frames Frames one other = tt
+one-judgement scene setup Frames (Work cells frames) one other = work-frames scene setup cells frames other one
+one-judgement scene setup Frames (Enclosure start x y) one other = bounds-frames scene setup other.needed other.bounds one
+one-judgement scene setup (Work cells frames) NotYet one other = not_yet-judged scene other one.judged
+one-judgement scene setup (Work cells frames) (Pass others) one other = bounds-much scene setup others cells frames other.bounds one.much
+one-judgement scene setup (Work cells frames) (Fail w) one other = bounds-much scene setup other.needed cells frames other.bounds one.much
+one-judgement scene setup (Work cells frames) Frames one other = work-frames scene setup cells frames one other
+one-judgement scene setup (Work cells frames) (Work other_cells others) one other = much-same scene setup cells frames other_cells others one.much other.much
+one-judgement scene setup (Work cells frames) (Enclosure start x y) one other = bounds-much scene setup other.needed cells frames other.bounds one.much
+one-judgement scene setup (Enclosure start x y) NotYet one other = not_yet-judged scene other one.bounds.judged
+one-judgement scene setup (Enclosure start x y) (Pass frames) one other = pass-enclosed scene setup frames start x y other one
+one-judgement scene setup (Enclosure start x y) (Fail w) one other = fail-enclosed scene setup w start x y other one
+one-judgement scene setup (Enclosure start x y) Frames one other = bounds-frames scene setup one.needed one.bounds other
+one-judgement scene setup (Enclosure start x y) (Work cells frames) one other = bounds-much scene setup one.needed cells frames one.bounds other.much
+one-judgement scene setup (Enclosure start x y) (Enclosure other_start other_x other_y) one other =
+    encloses-same scene setup start other_start x y other_x other_y one other

@@ -1,0 +1,109 @@
+-- What a scene comes to at a setup: whether it can be judged yet, and what the judge says, with a witness where it is bad.
+use Rattle.std.specs.Prelude.{ℕ, ℤ, Bool, false, not, ◌≡◌, ◌≤◌, ◌&&◌, IsTrue}
+use Rattle.page_model.specs.declared.scene.Scene.{Scene}
+use Rattle.page_model.specs.declared.setup.Setup.{Setup}
+use Rattle.page_model.specs.declared.witness.Witness.{Witness}
+use Rattle.page_model.specs.Colour.{IsBadWindow, IsSafeScene}
+use Rattle.page_model.specs.Enclosure.{LooseRun, own}
+use Rattle.page_model.specs.Horizon.{IsNeeded, all_animations, frames_for}
+use Rattle.page_model.specs.TintOf.{IsLooseRunIn, tints_of}
+use Rattle.page_model.specs.Window.{IsPossiblyBad, IsSurelyBad, IsSurelyFlagged}
+use Rattle.frame_state.specs.Scenes.{can_be_painted, is_coloured, is_endless}
+use Rattle.period_frames.specs.Needed.{NeedsMore}
+use Rattle.region_split.specs.Cutting.{Edges, IsCut}
+use Rattle.sweep.specs.declared.types.Reason.{Reason}
+use Rattle.sweep.specs.declared.types.Reason.TheVariants as reason
+use Rattle.sweep.specs.Marks.{CountsFlagged}
+use Rattle.sweep.specs.Verdicts.{IsFirstBad, IsPossibleMost, IsSureMost, IsTooMuch, NoneIn}
+use Rattle.witness_laws.specs.Acceptance.{IsAccepted}
+use Rattle.witness_text.specs.WitnessForm.{IsInForm}
+use Rattle.page_judge.specs.declared.types.Judgement.{Judgement}
+use Rattle.page_judge.specs.declared.types.Judgement.TheVariants.{NotYet, Pass, Fail, Frames, Work, Enclosure}
+
+-- a scene can be judged: its frames can be painted, its animations end, and its colours are greys
+abbrev pub can_be_judged : Scene → Bool
+can_be_judged scene = can_be_painted scene && (not (is_endless scene) && not (is_coloured scene))
+
+-- so many windows have to be looked at, and neither they nor the cells in their frames are too many
+pub record IsWithinBounds (scene : Scene) (setup : Setup) (needed : ℕ) : Type 0 where
+  pub judged : IsTrue (can_be_judged scene)
+  pub is_needed : IsNeeded setup (all_animations scene) needed
+  pub few : needed ≤ 100000
+  pub cuts : Edges
+  pub cut : IsCut scene setup (frames_for setup needed) cuts
+
+-- no window is bad, from the first frame on for ever; it shows in so many windows, of which none is surely or possibly bad
+pub record IsPass (scene : Scene) (setup : Setup) (frames : ℕ) : Type 0 where
+  pub bounds : IsWithinBounds scene setup frames
+  pub none_surely : NoneIn (IsSurelyBad own scene setup) frames
+  pub none_possibly : NoneIn (IsPossiblyBad own scene setup) frames
+  pub safe : IsSafeScene scene setup
+
+-- The witness tells the first window that is surely bad, and the first position where it is so most; its area is the number of surely
+-- flagged pixels there. It meets all nine conditions, it is in form, so that its text reads as it, and the window is bad.
+pub record IsFail (scene : Scene) (setup : Setup) (w : Witness) : Type 0 where
+  pub needed : ℕ
+  pub bounds : IsWithinBounds scene setup needed
+  pub first : IsFirstBad (IsSurelyBad own scene setup) needed w.start w.x w.y
+  pub most : IsSureMost scene setup w.start w.x w.y
+  pub counts : (run : LooseRun) → IsLooseRunIn own scene setup w.start run
+      → CountsFlagged (IsSurelyFlagged own (tints_of scene run) setup w.start) setup w.x w.y w.area
+  pub accepted : IsAccepted scene setup w
+  pub form : IsInForm w
+  pub bad : IsBadWindow scene setup w.start w.x w.y
+
+-- none is surely bad, and this is the first that is possibly bad, at the first position where it is so most
+pub record IsEnclosed (scene : Scene) (setup : Setup) (start : ℕ) (x y : ℤ) : Type 0 where
+  pub needed : ℕ
+  pub bounds : IsWithinBounds scene setup needed
+  pub none_surely : NoneIn (IsSurelyBad own scene setup) needed
+  pub first : IsFirstBad (IsPossiblyBad own scene setup) needed start x y
+  pub most : IsPossibleMost scene setup start x y
+
+-- it can be judged, and more windows have to be looked at than are
+pub record IsPastFrames (scene : Scene) (setup : Setup) : Type 0 where
+  pub judged : IsTrue (can_be_judged scene)
+  pub more : NeedsMore setup (all_animations scene)
+
+-- it can be judged, and cells times frames are too many
+pub record IsPastWork (scene : Scene) (setup : Setup) (cells frames : ℕ) : Type 0 where
+  pub judged : IsTrue (can_be_judged scene)
+  pub much : IsTooMuch scene setup cells frames
+
+-- the judgement that a reason of a sweep gives
+abbrev pub judgement_for : Reason → Judgement
+judgement_for reason.Frames = Frames
+judgement_for (reason.Work cells frames) = Work cells frames
+judgement_for (reason.Enclosure start x y) = Enclosure start x y
+
+-- what a scene comes to, and why
+abbrev pub IsJudgement : Scene → Setup → Judgement → Type 0
+IsJudgement scene setup NotYet = can_be_judged scene ≡ false
+IsJudgement scene setup (Pass frames) = IsPass scene setup frames
+IsJudgement scene setup (Fail w) = IsFail scene setup w
+IsJudgement scene setup Frames = IsPastFrames scene setup
+IsJudgement scene setup (Work cells frames) = IsPastWork scene setup cells frames
+IsJudgement scene setup (Enclosure start x y) = IsEnclosed scene setup start x y
+
+-- two witnesses tell the same window, position and area
+pub record TellSame (one other : Witness) : Type 0 where
+  pub start : one.start ≡ other.start
+  pub x : one.x ≡ other.x
+  pub y : one.y ≡ other.y
+  pub area : one.area ≡ other.area
+
+-- two answers are the same: the same cause, and the same numbers
+abbrev pub IsSameAnswer : Judgement → Judgement → Type 0
+IsSameAnswer NotYet NotYet = Unit {0}
+IsSameAnswer (Pass frames) (Pass others) = frames ≡ others
+IsSameAnswer (Fail w) (Fail other) = TellSame w other
+IsSameAnswer Frames Frames = Unit {0}
+IsSameAnswer (Work cells frames) (Work other_cells others) = (cells ≡ other_cells) × (frames ≡ others)
+IsSameAnswer (Enclosure start x y) (Enclosure other_start other_x other_y) = (start ≡ other_start) × (x ≡ other_x) × (y ≡ other_y)
+IsSameAnswer one other = ⊥
+
+-- a scene comes to one answer at a setup
+abbrev pub OneJudgement : Type 0
+OneJudgement =
+    (scene : Scene) (setup : Setup) (one other : Judgement) → IsJudgement scene setup one → IsJudgement scene setup other
+    → IsSameAnswer one other

@@ -1,0 +1,2 @@
+pub mod ExamplePage
+pub mod Judgement

@@ -1,0 +1,97 @@
+// What a scene comes to: whether it can be judged, and how it is.
+ghost use Rattle.std.specs.Prelude.{◌≡◌, IfOk, IsTrue};
+ghost use Rattle.page_model.specs.ValidScene.{IsValid};
+ghost use Rattle.page_judge.specs.Judgement as definition;
+ghost use Rattle.page_judge.specs.Judgement.{IsFail, IsJudgement, OneJudgement, judgement_for};
+ghost use Rattle.sweep.specs.Verdicts as verdict;
+ghost use Rattle.sweep.specs.Verdicts.{IsReady};
+
+use crate::types::Judgement;
+use frame_state::{can_be_painted, is_coloured, is_endless};
+use page_model::{BadWindow, NoMemory, Scene, Setup, Witness};
+use std::alloc::Global;
+use sweep::{OpenFault, Reason, Sweep, Verdict};
+use witness_make::make;
+
+/// Whether a scene can be judged yet: its frames can be painted, its animations end, and its colours are greys.
+pub fn can_be_judged(scene: &Scene) -> bool
+    ensures { result ≡ definition.can_be_judged scene.now }
+{
+    if !can_be_painted(scene) {
+        return false;
+    }
+    if is_endless(scene) {
+        return false;
+    }
+    !is_coloured(scene)
+}
+
+/// The witness of the window in which a sweep failed its scene.
+///
+/// # Errors
+///
+/// `NoMemory` where memory is refused.
+fn witness_of(alloc: Global, sweep: &Sweep, bad: BadWindow) -> Result<Witness, NoMemory>
+    requires ready { IsReady sweep.now }
+    requires judged { IsTrue (definition.can_be_judged sweep.now.scene) }
+    requires failed { verdict.IsFail sweep.now.scene sweep.now.setup sweep.now.needed bad.start bad.x bad.y }
+    ensures { IfOk result (IsFail sweep.now.scene sweep.now.setup) }
+{
+    make(alloc, sweep.scene(), sweep.setup(), sweep.cuts(), bad)
+}
+
+/// The judgement that a reason gives.
+fn undecided(reason: Reason) -> Judgement
+    ensures { result ≡ judgement_for reason }
+{
+    match reason {
+        Reason::Frames => Judgement::Frames,
+        Reason::Work { cells, frames } => Judgement::Work { cells, frames },
+        Reason::Enclosure { start, x, y } => Judgement::Enclosure { start, x, y },
+    }
+}
+
+/// What the scene of a sweep comes to.
+///
+/// # Errors
+///
+/// `NoMemory` where memory is refused.
+fn judgement_of(alloc: Global, mut sweep: Sweep) -> Result<Judgement, NoMemory>
+    requires ready { IsReady sweep }
+    requires judged { IsTrue (definition.can_be_judged sweep.scene) }
+    ensures { IfOk result (IsJudgement sweep.scene sweep.setup) }
+{
+    let verdict = sweep.run(alloc)?;
+    match verdict {
+        Verdict::Pass { frames, .. } => Ok(Judgement::Pass { frames }),
+        Verdict::Fail(bad) => Ok(Judgement::Fail(witness_of(alloc, &sweep, bad)?)),
+        Verdict::Undecided(reason) => Ok(undecided(reason)),
+    }
+}
+
+/// What a scene comes to at a setup: `NotYet` where it can't be judged, `Frames` and `Work` where there is too much to look at, and
+/// else what its windows tell, with a witness where one is bad.
+///
+/// # Errors
+///
+/// `NoMemory` where memory is refused.
+pub fn judge(alloc: Global, scene: Scene, setup: Setup) -> Result<Judgement, NoMemory>
+    requires { IsValid scene }
+    ensures { IfOk result (λ judgement. IsJudgement scene setup judgement) }
+{
+    if !can_be_judged(&scene) {
+        return Ok(Judgement::NotYet);
+    }
+    match Sweep::open(alloc, scene, setup) {
+        Ok(sweep) => judgement_of(alloc, sweep),
+        Err(OpenFault::Frames) => Ok(Judgement::Frames),
+        Err(OpenFault::Work { cells, frames }) => Ok(Judgement::Work { cells, frames }),
+        Err(OpenFault::NoMemory) => Err(NoMemory),
+    }
+}
+
+/// The answers exclude each other: a scene comes to one of them at a setup, with the same numbers, window, position and area. Causes
+/// that leave both a pass and an enclosure open, or any bad window for the first, would be refused.
+pub fn one_judgement()
+    ensures { OneJudgement }
+{}
