@@ -1,65 +1,117 @@
--- Where a page is refused, is still or isn't judged yet, nothing else is answered, want of memory apart.
-use Rattle.std.proofs.Common.{◌≡◌, ◌⊎◌, ◌∙◌, ℕ, List, refl, sym, ap, inl, inr, true≢false}
+-- The answers of each command exclude each other: bytes are refused for one cause, or are the page of one scene, and that comes to one answer.
+use Rattle.std.proofs.Common.{◌≡◌, ◌∙◌, ◌⊎◌, ℕ, List, inl, inr, refl, sym, ap, subst, true, false, true≢false}
+use Rattle.page_model.specs.TintOf.{single}
+use Rattle.page_model.specs.Colour.{painted as painted_by}
 use Rattle.page_model.specs.Viewing.{Viewing}
-use Rattle.frame_state.specs.Scenes.{is_animated}
-use Rattle.grey_lamp.specs.Page.{IsLampPage}
-use Rattle.grey_lamp.specs.declared.lamp.Lamp.{Lamp}
-use Rattle.lamp_laws.specs.LampScene.{lamp_scene}
-use Rattle.flash_top.specs.Outcomes.{IsAnimatedPage, IsStillPage, IsUnjudged, IsVerdict}
-use Rattle.flash_top.specs.Refusals.{IsLoaded, IsRefusal}
+use Rattle.page_model.specs.declared.scene.Scene.{Scene}
+use Rattle.frame_state.specs.Scenes.{can_be_painted}
+use Rattle.paint_blend.specs.Paint.{computed_states}
+use Rattle.page_judge.specs.Judgement.{IsJudgement}
+use Rattle.page_judge.specs.declared.types.Judgement.{Judgement}
+use Rattle.page_judge.specs.declared.types.Judgement.TheVariants.{NotYet as Unjudged, Pass as Passed, Fail as Failed, Frames, Work, Enclosure}
+use Rattle.page_judge.proofs.OneLemmas.{one-judgement}
+use Rattle.flash_top.specs.Refusals.{IsLoadedAs}
+use Rattle.flash_top.specs.SameAnswers.{AreEqual, OneTint, OneVerdict, TellSame}
+use Rattle.flash_top.specs.Steps.{IsRefusedAs, told}
+use Rattle.flash_top.specs.Verdicts.{IsTinted, IsVerdict}
+use Rattle.flash_words.specs.Words.{Spot}
 use Rattle.flash_top.specs.declared.outcome.Outcome.{Outcome}
-use Rattle.flash_top.specs.declared.outcome.Outcome.TheVariants.{WordsRefused, ReadFault, Refused, NotYet, Pass, Fail, TooManyFrames, Painted, NoMemory}
-use Rattle.flash_top.specs.declared.refusal.PageRefusal.{PageRefusal}
-use Rattle.flash_top.proofs.LampPage.{lamp_is_animated, lamp_is_loaded}
+use Rattle.flash_top.specs.declared.outcome.Outcome.TheVariants.{WordsRefused, ReadFault, Refused, NotYet, Pass, Fail, TooManyFrames, TooMuchWork, Enclosed, NoWitness, Unaccepted, Accepted, Painted, NoMemory}
 use Rattle.flash_top.proofs.RefusalLemmas.{loaded_once, one_cause, refused_or_loaded}
 
-pub lamp_loaded : (bytes : List ℕ) (lamp : Lamp) → IsLampPage bytes lamp → IsLoaded bytes
-lamp_loaded bytes lamp is = record { scene = lamp_scene lamp; loaded = lamp_is_loaded bytes lamp is }
+-- what an outcome tells of bytes: want of memory, a refusal, or something of their scene
+pub record TellsOf (bytes : List ℕ) (Told : Scene → Outcome → Type 0) (outcome : Outcome) : Type 0 where
+  pub scene : Scene
+  pub loaded : IsLoadedAs bytes scene
+  pub tells : Told scene outcome
 
--- a lamp's page isn't still
-still_or_lamp : (bytes : List ℕ) (lamp : Lamp) → IsLampPage bytes lamp → IsStillPage bytes → ⊥
-still_or_lamp bytes lamp is still =
-    let same = loaded_once bytes (lamp_scene lamp) still.scene (lamp_is_loaded bytes lamp is) still.loaded in
-    true≢false (sym (lamp_is_animated lamp) ∙ ap is_animated (sym same) ∙ still.still)
+abbrev pub HasCause : List ℕ → (Scene → Outcome → Type 0) → Outcome → Type 0
+HasCause bytes Told outcome = (outcome ≡ NoMemory) ⊎ (IsRefusedAs bytes outcome ⊎ TellsOf bytes Told outcome)
 
-still_or_animated : (bytes : List ℕ) → IsAnimatedPage bytes → IsStillPage bytes → ⊥
-still_or_animated bytes animated still =
-    let same = loaded_once bytes animated.scene still.scene animated.loaded still.loaded in
-    true≢false (sym animated.animated ∙ ap is_animated (sym same) ∙ still.still)
+-- two outcomes with causes agree where those of one scene do
+pub causes_agree : (bytes : List ℕ) (Told : Scene → Outcome → Type 0) (one other : Outcome) (Agree : Type 0) → HasCause bytes Told one → HasCause bytes Told other
+    → ((scene : Scene) → Told scene one → Told scene other → AreEqual one other ⊎ Agree) → AreEqual one other ⊎ Agree
+causes_agree bytes Told one other Agree (inl want) also same = inl (inl want)
+causes_agree bytes Told one other Agree (inr is) (inl want) same = inl (inr (inl want))
+causes_agree bytes Told one other Agree (inr (inl is)) (inr (inl also)) same =
+    let cause = one_cause bytes is.refusal also.refusal is.cause also.cause in
+    inl (inr (inr (also.told ∙ ap Refused cause ∙ sym is.told)))
+causes_agree bytes Told one other Agree (inr (inl is)) (inr (inr also)) same = absurd (refused_or_loaded bytes is.refusal also.scene is.cause also.loaded)
+causes_agree bytes Told one other Agree (inr (inr is)) (inr (inl also)) same = absurd (refused_or_loaded bytes also.refusal is.scene also.cause is.loaded)
+causes_agree bytes Told one other Agree (inr (inr is)) (inr (inr also)) same =
+    same is.scene is.tells (subst (λ (scene : Scene). Told scene other) (loaded_once bytes is.scene also.scene is.loaded also.loaded) also.tells)
 
-pub refusal_is_answer : (setup : Viewing) (bytes : List ℕ) (refusal : PageRefusal) (outcome : Outcome) → IsRefusal bytes refusal → IsVerdict setup bytes outcome
-    → (outcome ≡ Refused refusal) ⊎ (outcome ≡ NoMemory)
-refusal_is_answer setup bytes refusal WordsRefused is h = absurd h
-refusal_is_answer setup bytes refusal ReadFault is h = absurd h
-refusal_is_answer setup bytes refusal (Refused other) is h = inl (ap Refused (one_cause bytes refusal other is h))
-refusal_is_answer setup bytes refusal NotYet is h = absurd (refused_or_loaded bytes refusal is (record { scene = h.page.scene; loaded = h.page.loaded }))
-refusal_is_answer setup bytes refusal (Pass frames) is (inl h) = absurd (refused_or_loaded bytes refusal is (lamp_loaded bytes h.lamp h.page))
-refusal_is_answer setup bytes refusal (Pass frames) is (inr h) = absurd (refused_or_loaded bytes refusal is (record { scene = h.page.scene; loaded = h.page.loaded }))
-refusal_is_answer setup bytes refusal (Fail witness) is h = absurd (refused_or_loaded bytes refusal is (lamp_loaded bytes h.lamp h.page))
-refusal_is_answer setup bytes refusal TooManyFrames is h = absurd (refused_or_loaded bytes refusal is (lamp_loaded bytes h.lamp h.page))
-refusal_is_answer setup bytes refusal (Painted tint) is h = absurd h
-refusal_is_answer setup bytes refusal NoMemory is h = inr refl
+-- ---- check
 
-pub still_is_answer : (setup : Viewing) (bytes : List ℕ) (outcome : Outcome) → IsStillPage bytes → IsVerdict setup bytes outcome → (outcome ≡ Pass 1) ⊎ (outcome ≡ NoMemory)
-still_is_answer setup bytes WordsRefused is h = absurd h
-still_is_answer setup bytes ReadFault is h = absurd h
-still_is_answer setup bytes (Refused other) is h = absurd (refused_or_loaded bytes other h (record { scene = is.scene; loaded = is.loaded }))
-still_is_answer setup bytes NotYet is h = absurd (still_or_animated bytes h.page is)
-still_is_answer setup bytes (Pass frames) is (inl h) = absurd (still_or_lamp bytes h.lamp h.page is)
-still_is_answer setup bytes (Pass frames) is (inr h) = inl (ap Pass h.one)
-still_is_answer setup bytes (Fail witness) is h = absurd (still_or_lamp bytes h.lamp h.page is)
-still_is_answer setup bytes TooManyFrames is h = absurd (still_or_lamp bytes h.lamp h.page is)
-still_is_answer setup bytes (Painted tint) is h = absurd h
-still_is_answer setup bytes NoMemory is h = inr refl
+record TellsJudgement (setup : Viewing) (scene : Scene) (outcome : Outcome) : Type 0 where
+  pub judgement : Judgement
+  pub judged : IsJudgement scene setup judgement
+  pub told_is : outcome ≡ told judgement
 
-pub unjudged_is_answer : (setup : Viewing) (bytes : List ℕ) (outcome : Outcome) → IsUnjudged bytes → IsVerdict setup bytes outcome → (outcome ≡ NotYet) ⊎ (outcome ≡ NoMemory)
-unjudged_is_answer setup bytes WordsRefused is h = absurd h
-unjudged_is_answer setup bytes ReadFault is h = absurd h
-unjudged_is_answer setup bytes (Refused other) is h = absurd (refused_or_loaded bytes other h (record { scene = is.page.scene; loaded = is.page.loaded }))
-unjudged_is_answer setup bytes NotYet is h = inl refl
-unjudged_is_answer setup bytes (Pass frames) is (inl h) = absurd (is.no_lamp h.lamp h.page)
-unjudged_is_answer setup bytes (Pass frames) is (inr h) = absurd (still_or_animated bytes is.page h.page)
-unjudged_is_answer setup bytes (Fail witness) is h = absurd (is.no_lamp h.lamp h.page)
-unjudged_is_answer setup bytes TooManyFrames is h = absurd (is.no_lamp h.lamp h.page)
-unjudged_is_answer setup bytes (Painted tint) is h = absurd h
-unjudged_is_answer setup bytes NoMemory is h = inr refl
+verdict_cause : (setup : Viewing) (bytes : List ℕ) (outcome : Outcome) → IsVerdict setup bytes outcome → HasCause bytes (TellsJudgement setup) outcome
+verdict_cause setup bytes WordsRefused h = absurd h
+verdict_cause setup bytes ReadFault h = absurd h
+verdict_cause setup bytes (Refused refusal) h = inr (inl (record { refusal = refusal; cause = h; told = refl }))
+verdict_cause setup bytes NotYet h = inr (inr (record { scene = h.scene; loaded = h.loaded; tells = record { judgement = Unjudged; judged = h.holds; told_is = refl } }))
+verdict_cause setup bytes (Pass frames) h = inr (inr (record { scene = h.scene; loaded = h.loaded; tells = record { judgement = Passed frames; judged = h.holds; told_is = refl } }))
+verdict_cause setup bytes (Fail witness) h = inr (inr (record { scene = h.scene; loaded = h.loaded; tells = record { judgement = Failed witness; judged = h.holds; told_is = refl } }))
+verdict_cause setup bytes TooManyFrames h = inr (inr (record { scene = h.scene; loaded = h.loaded; tells = record { judgement = Frames; judged = h.holds; told_is = refl } }))
+verdict_cause setup bytes (TooMuchWork cells frames) h = inr (inr (record { scene = h.scene; loaded = h.loaded; tells = record { judgement = Work cells frames; judged = h.holds; told_is = refl } }))
+verdict_cause setup bytes (Enclosed start x y) h = inr (inr (record { scene = h.scene; loaded = h.loaded; tells = record { judgement = Enclosure start x y; judged = h.holds; told_is = refl } }))
+verdict_cause setup bytes NoWitness h = absurd h
+verdict_cause setup bytes (Unaccepted fault) h = absurd h
+verdict_cause setup bytes (Accepted start area) h = absurd h
+verdict_cause setup bytes (Painted tint) h = absurd h
+verdict_cause setup bytes NoMemory h = inl refl
+
+pub one_verdict : OneVerdict
+one_verdict setup bytes one other is also =
+    causes_agree bytes (TellsJudgement setup) one other (TellSame one other) (verdict_cause setup bytes one is) (verdict_cause setup bytes other also)
+    (λ scene first second. inr (record {
+      first = first.judgement;
+      second = second.judgement;
+      same = one-judgement scene setup first.judgement second.judgement first.judged second.judged;
+      first_is = first.told_is;
+      second_is = second.told_is;
+    }))
+
+-- ---- tint
+
+-- it can't be painted, or the tint is that by the computed states
+TellsTint : Viewing → Spot → Scene → Outcome → Type 0
+TellsTint setup spot scene outcome =
+    ((can_be_painted scene ≡ false) × (outcome ≡ NotYet))
+    ⊎ ((can_be_painted scene ≡ true) × (outcome ≡ Painted (single (painted_by scene (computed_states scene setup spot.frame) spot.column spot.row))))
+
+tint_cause : (setup : Viewing) (spot : Spot) (bytes : List ℕ) (outcome : Outcome) → IsTinted setup spot bytes outcome → HasCause bytes (TellsTint setup spot) outcome
+unfolding TellsTint
+tint_cause setup spot bytes WordsRefused h = absurd h
+tint_cause setup spot bytes ReadFault h = absurd h
+tint_cause setup spot bytes (Refused refusal) h = inr (inl (record { refusal = refusal; cause = h; told = refl }))
+tint_cause setup spot bytes NotYet h = inr (inr (record { scene = h.scene; loaded = h.loaded; tells = inl (h.holds, refl) }))
+tint_cause setup spot bytes (Pass frames) h = absurd h
+tint_cause setup spot bytes (Fail witness) h = absurd h
+tint_cause setup spot bytes TooManyFrames h = absurd h
+tint_cause setup spot bytes (TooMuchWork cells frames) h = absurd h
+tint_cause setup spot bytes (Enclosed start x y) h = absurd h
+tint_cause setup spot bytes NoWitness h = absurd h
+tint_cause setup spot bytes (Unaccepted fault) h = absurd h
+tint_cause setup spot bytes (Accepted start area) h = absurd h
+tint_cause setup spot bytes (Painted tint) h = inr (inr (record { scene = h.scene; loaded = h.loaded; tells = inr (h.holds.painted, ap Painted h.holds.computed) }))
+tint_cause setup spot bytes NoMemory h = inl refl
+
+same_tint : (setup : Viewing) (spot : Spot) (one other : Outcome) (scene : Scene) → TellsTint setup spot scene one → TellsTint setup spot scene other → AreEqual one other ⊎ ⊥
+unfolding TellsTint
+same_tint setup spot one other scene (inl is) (inl also) = inl (inr (inr (also.1 ∙ sym is.1)))
+same_tint setup spot one other scene (inl is) (inr also) = absurd (true≢false (sym also.0 ∙ is.0))
+same_tint setup spot one other scene (inr is) (inl also) = absurd (true≢false (sym is.0 ∙ also.0))
+same_tint setup spot one other scene (inr is) (inr also) = inl (inr (inr (also.1 ∙ sym is.1)))
+
+agree : (one other : Outcome) → AreEqual one other ⊎ ⊥ → AreEqual one other
+agree one other (inl same) = same
+agree one other (inr never) = absurd never
+
+pub one_tint : OneTint
+one_tint setup spot bytes one other is also =
+    agree one other
+    (causes_agree bytes (TellsTint setup spot) one other ⊥ (tint_cause setup spot bytes one is) (tint_cause setup spot bytes other also) (same_tint setup spot one other))

@@ -1,8 +1,9 @@
+pub mod AcceptedLemmas
 pub mod AnswerLemmas
-pub mod CheckWords
-pub mod Decimals
-pub mod LampPage
-pub mod OutcomeLemmas
+pub mod FileLemmas
+pub mod NamedWords
+pub mod OwnTextLemmas
 pub mod RefusalLemmas
-pub mod StillPage
-pub mod StyledPage
+pub mod SoundLemmas
+pub mod ToldLemmas
+pub mod VerdictLemmas

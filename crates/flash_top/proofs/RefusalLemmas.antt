@@ -1,6 +1,5 @@
 -- A fault of the page is a refusal of it, and a page is refused for one cause.
-use Rattle.std.proofs.Common.{◌≡◌, ℕ, ◌<◌, ◌≤◌, ◌⊎◌, inl, inr, List, length, Result, Ok, Err, refl, sym, ap, ◌∙◌, subst, arith}
-use Rattle.page_model.specs.Viewing.{Viewing}
+use Rattle.std.proofs.Common.{◌≡◌, ℕ, ◌<◌, ◌≤◌, ◌⊎◌, inl, inr, List, length, Result, Ok, Err, refl, sym, ap, ◌∙◌, arith}
 use Rattle.page_model.specs.declared.scene.Scene.{Scene}
 use Rattle.page_reader.specs.declared.fault.PageFault.TheVariants as text
 use Rattle.css_declarations.specs.declared.fault.SheetFault.TheVariants as style
@@ -9,53 +8,32 @@ use Rattle.page_loader.specs.Loading.{IsFirstFault, IsRefused, SpellScene}
 use Rattle.page_loader.specs.declared.load_fault.LoadFault.{LoadFault}
 use Rattle.page_loader.specs.declared.load_fault.LoadFault.TheVariants.{Page, Sheet, Scene as NoScene, NoMemory as Unloaded}
 use Rattle.page_loader.proofs.OneLoading.{one_load}
-use Rattle.flash_top.specs.Outcomes.{IsTinted, IsVerdict}
-use Rattle.flash_top.specs.Words.{Spot}
-use Rattle.flash_top.specs.Refusals.{Breaks, IsLoaded, IsLoadedAs, IsRefusal, page_limit, refused}
+use Rattle.flash_top.specs.Refusals.{Breaks, IsLoadedAs, IsRefusal, page_limit, refused}
+use Rattle.flash_top.specs.Steps.{IsUnloaded}
 use Rattle.flash_top.specs.declared.refusal.PageRefusal.{PageRefusal}
 use Rattle.flash_top.specs.declared.refusal.PageRefusal.TheVariants.{TooLong, BadText, TooManyBoxes, BadSheet, UnknownProperty, BadValue, BadKeyframes, OverLimit, NotPlaced, BodyProperty, TooManyAnimations}
 use Rattle.flash_top.specs.declared.outcome.Outcome.TheVariants.{Refused}
 
 -- the first fault is a cause of what is told
-fault_told : (setup : Viewing) (bytes : List ℕ) (fault : LoadFault) → Breaks bytes fault → IsVerdict setup bytes (refused fault)
-fault_told setup bytes (Page (text.BadText place)) is = is
-fault_told setup bytes (Page text.TooMany) is = is
-fault_told setup bytes (Page text.NoMemory) is = tt
-fault_told setup bytes (Sheet (style.BadSheet place)) is = is
-fault_told setup bytes (Sheet (style.UnknownProperty place)) is = is
-fault_told setup bytes (Sheet (style.BadValue place)) is = is
-fault_told setup bytes (Sheet (style.BadKeyframes place)) is = is
-fault_told setup bytes (Sheet (style.OverLimit place)) is = is
-fault_told setup bytes (Sheet style.NoMemory) is = tt
-fault_told setup bytes (NoScene (element.NotPlaced number)) is = is
-fault_told setup bytes (NoScene element.BodyProperty) is = is
-fault_told setup bytes (NoScene (element.TooManyAnimations number)) is = is
-fault_told setup bytes (NoScene element.NoMemory) is = tt
-fault_told setup bytes Unloaded is = tt
+fault_told : (bytes : List ℕ) (fault : LoadFault) → Breaks bytes fault → IsUnloaded bytes (refused fault)
+fault_told bytes (Page (text.BadText place)) is = inr (record { refusal = BadText place; cause = is; told = refl })
+fault_told bytes (Page text.TooMany) is = inr (record { refusal = TooManyBoxes; cause = is; told = refl })
+fault_told bytes (Page text.NoMemory) is = inl refl
+fault_told bytes (Sheet (style.BadSheet place)) is = inr (record { refusal = BadSheet place; cause = is; told = refl })
+fault_told bytes (Sheet (style.UnknownProperty place)) is = inr (record { refusal = UnknownProperty place; cause = is; told = refl })
+fault_told bytes (Sheet (style.BadValue place)) is = inr (record { refusal = BadValue place; cause = is; told = refl })
+fault_told bytes (Sheet (style.BadKeyframes place)) is = inr (record { refusal = BadKeyframes place; cause = is; told = refl })
+fault_told bytes (Sheet (style.OverLimit place)) is = inr (record { refusal = OverLimit place; cause = is; told = refl })
+fault_told bytes (Sheet style.NoMemory) is = inl refl
+fault_told bytes (NoScene (element.NotPlaced number)) is = inr (record { refusal = NotPlaced number; cause = is; told = refl })
+fault_told bytes (NoScene element.BodyProperty) is = inr (record { refusal = BodyProperty; cause = is; told = refl })
+fault_told bytes (NoScene (element.TooManyAnimations number)) is = inr (record { refusal = TooManyAnimations number; cause = is; told = refl })
+fault_told bytes (NoScene element.NoMemory) is = inl refl
+fault_told bytes Unloaded is = inl refl
 
-pub is_refused : (setup : Viewing) (bytes : List ℕ) (fault : LoadFault) → length bytes ≤ page_limit → IsRefused bytes fault → IsVerdict setup bytes (refused fault)
-is_refused setup bytes fault short (inl want) = subst (λ (fault : LoadFault). IsVerdict setup bytes (refused fault)) (sym want) tt
-is_refused setup bytes fault short (inr first) = fault_told setup bytes fault (record { short = short; first = first })
-
-fault_untold : (setup : Viewing) (spot : Spot) (bytes : List ℕ) (fault : LoadFault) → Breaks bytes fault → IsTinted setup spot bytes (refused fault)
-fault_untold setup spot bytes (Page (text.BadText place)) is = is
-fault_untold setup spot bytes (Page text.TooMany) is = is
-fault_untold setup spot bytes (Page text.NoMemory) is = tt
-fault_untold setup spot bytes (Sheet (style.BadSheet place)) is = is
-fault_untold setup spot bytes (Sheet (style.UnknownProperty place)) is = is
-fault_untold setup spot bytes (Sheet (style.BadValue place)) is = is
-fault_untold setup spot bytes (Sheet (style.BadKeyframes place)) is = is
-fault_untold setup spot bytes (Sheet (style.OverLimit place)) is = is
-fault_untold setup spot bytes (Sheet style.NoMemory) is = tt
-fault_untold setup spot bytes (NoScene (element.NotPlaced number)) is = is
-fault_untold setup spot bytes (NoScene element.BodyProperty) is = is
-fault_untold setup spot bytes (NoScene (element.TooManyAnimations number)) is = is
-fault_untold setup spot bytes (NoScene element.NoMemory) is = tt
-fault_untold setup spot bytes Unloaded is = tt
-
-pub is_untinted : (setup : Viewing) (spot : Spot) (bytes : List ℕ) (fault : LoadFault) → length bytes ≤ page_limit → IsRefused bytes fault → IsTinted setup spot bytes (refused fault)
-is_untinted setup spot bytes fault short (inl want) = subst (λ (fault : LoadFault). IsTinted setup spot bytes (refused fault)) (sym want) tt
-is_untinted setup spot bytes fault short (inr first) = fault_untold setup spot bytes fault (record { short = short; first = first })
+pub is_unloaded : (bytes : List ℕ) (fault : LoadFault) → length bytes ≤ page_limit → IsRefused bytes fault → IsUnloaded bytes (refused fault)
+is_unloaded bytes fault short (inl want) = inl (ap refused want)
+is_unloaded bytes fault short (inr first) = fault_told bytes fault (record { short = short; first = first })
 
 -- the refusal of a fault, and back
 fault_of : PageRefusal → LoadFault
@@ -119,11 +97,11 @@ one_cause bytes refusal other is also =
 no_fault : (bytes : List ℕ) (scene : Scene) (fault : LoadFault) → SpellScene bytes scene → IsFirstFault bytes fault → ⊥
 no_fault bytes scene fault is has = let same : ◌≡◌ {A = Result Scene LoadFault} (Err fault) (Ok scene) = one_load bytes (Ok scene) (Err fault) is has in cc
 
-pub refused_or_loaded : (bytes : List ℕ) (refusal : PageRefusal) → IsRefusal bytes refusal → IsLoaded bytes → ⊥
-refused_or_loaded bytes refusal is has =
+pub refused_or_loaded : (bytes : List ℕ) (refusal : PageRefusal) (scene : Scene) → IsRefusal bytes refusal → IsLoadedAs bytes scene → ⊥
+refused_or_loaded bytes refusal scene is has =
     elim (cause bytes refusal is) [
-      | inl long ↦ not_both bytes long.1 has.loaded.short
-      | inr told ↦ no_fault bytes has.scene (fault_of refusal) has.loaded.spelled told.breaks.first
+      | inl long ↦ not_both bytes long.1 has.short
+      | inr told ↦ no_fault bytes scene (fault_of refusal) has.spelled told.breaks.first
     ]
 
 pub loaded_once : (bytes : List ℕ) (scene other : Scene) → IsLoadedAs bytes scene → IsLoadedAs bytes other → other ≡ scene

@@ -40,11 +40,6 @@ pub record IsLoadedAs (bytes : List ℕ) (scene : Scene) : Type 0 where
   pub short : length bytes ≤ page_limit
   pub spelled : SpellScene bytes scene
 
--- the bytes are few enough and spell what some scene is made of
-pub record IsLoaded (bytes : List ℕ) : Type 0 where
-  pub scene : Scene
-  pub loaded : IsLoadedAs bytes scene
-
 -- a fault as it is told
 abbrev pub refused : LoadFault → Outcome
 refused (Page (text.BadText place)) = Refused (BadText place)

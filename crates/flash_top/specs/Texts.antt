@@ -1,13 +1,15 @@
 -- What is written for each outcome, and the status that the run ends with.
 use Rattle.std.specs.Prelude.{ℕ, ◌≡◌, ◌⊎◌, List, [], ◌∷◌, ◌++◌, codes, decimal, if◌then◌else◌}
+use Rattle.std.specs.Fmt.{signed_decimal}
+use Rattle.witness_checks.specs.Faults.{condition_of}
 use Rattle.flash_top.specs.declared.outcome.Outcome.{Outcome}
-use Rattle.flash_top.specs.declared.outcome.Outcome.TheVariants.{WordsRefused, ReadFault, Refused, NotYet, Pass, Fail, TooManyFrames, Painted, NoMemory}
+use Rattle.flash_top.specs.declared.outcome.Outcome.TheVariants.{WordsRefused, ReadFault, Refused, NotYet, Pass, Fail, TooManyFrames, TooMuchWork, Enclosed, NoWitness, Unaccepted, Accepted, Painted, NoMemory}
 use Rattle.flash_top.specs.declared.refusal.PageRefusal.{PageRefusal}
 use Rattle.flash_top.specs.declared.refusal.PageRefusal.TheVariants.{TooLong, BadText, TooManyBoxes, BadSheet, UnknownProperty, BadValue, BadKeyframes, OverLimit, NotPlaced, BodyProperty, TooManyAnimations}
 use Rattle.flash_top.specs.declared.status.Status.{Status}
 use Rattle.flash_top.specs.declared.status.Status.TheVariants as status
-use Rattle.flash_witness.specs.TintText.{colour_text, is_single}
-use Rattle.flash_witness.specs.WitnessText.{witness_text}
+use Rattle.witness_text.specs.TintText.{colour_text, is_single}
+use Rattle.witness_text.specs.WitnessText.{witness_text}
 use Rattle.page_model.specs.declared.colour.Tint.{Tint}
 
 -- the line for a page that is refused, without its end; places are byte places from 0 on, and elements go by number, the body's being 0
@@ -39,6 +41,12 @@ line_of NotYet = codes "page: not yet"
 line_of (Pass frames) = codes "pass: frames " ++ decimal frames
 line_of (Fail witness) = witness_text witness
 line_of TooManyFrames = codes "undecided: more than 100000 frames"
+line_of (TooMuchWork cells frames) = codes "undecided: " ++ (decimal cells ++ (codes " cells in " ++ (decimal frames ++ codes " frames")))
+line_of (Enclosed start x y) =
+    codes "undecided: enclosure at start " ++ (decimal start ++ (codes ", rectangle " ++ (signed_decimal x ++ 32 ∷ signed_decimal y)))
+line_of NoWitness = codes "refused: not a witness"
+line_of (Unaccepted fault) = codes "refused: condition " ++ decimal (condition_of fault)
+line_of (Accepted start area) = codes "accepted: start " ++ (decimal start ++ (codes ", area " ++ decimal area))
 line_of (Painted tint) = tint_line tint
 line_of NoMemory = codes "no memory"
 
@@ -55,6 +63,11 @@ status_of NotYet = status.Page
 status_of (Pass frames) = status.Pass
 status_of (Fail witness) = status.Bad
 status_of TooManyFrames = status.Undecided
+status_of (TooMuchWork cells frames) = status.Undecided
+status_of (Enclosed start x y) = status.Undecided
+status_of NoWitness = status.Bad
+status_of (Unaccepted fault) = status.Bad
+status_of (Accepted start area) = status.Pass
 status_of (Painted tint) = status.Pass
 status_of NoMemory = status.NoMemory
 
@@ -81,6 +94,11 @@ HasOwnText NotYet = ⊥
 HasOwnText (Pass frames) = Unit {0}
 HasOwnText (Fail witness) = Unit {0}
 HasOwnText TooManyFrames = ⊥
+HasOwnText (TooMuchWork cells frames) = Unit {0}
+HasOwnText (Enclosed start x y) = Unit {0}
+HasOwnText NoWitness = ⊥
+HasOwnText (Unaccepted fault) = Unit {0}
+HasOwnText (Accepted start area) = Unit {0}
 HasOwnText (Painted tint) = Unit {0}
 HasOwnText NoMemory = ⊥
 

@@ -4,34 +4,36 @@
 //! whose cause holds, and what was written is the text of that outcome. A pass means that no window of the
 //! page is bad, from the first frame on for ever; a fail, that the text is a witness of the first bad window.
 //! The tint of a pixel is its exact colour in the frame.
-//! [`command`] reads the words, and takes no memory.
 //!
-//! The way of a run: `reading` finds the command, `checking` reads the file, loads it and judges the scene, `loading`
-//! says how a fault is told, `telling` makes the text and writes it. A page is refused for one cause
-//! ([`one_refusal`]), and the page of a lamp for none ([`lamp_page_is_loaded`]). A page on which nothing is animated
-//! passes, a lamp is judged, and each other page isn't judged yet; so the answers exclude each other ([`one_answer`]).
+//! The way of a run: `flash_words` finds the command, `obeying` hands it on, `opening` reads and loads what its words name,
+//! `checking` has the scene judged, `verifying` has a witness of it tested, `tinting` paints a pixel, and `telling` makes the
+//! text and writes it. `Verdicts` in `specs/` is the table of causes: it speaks of scenes, judgements and witnesses, and the
+//! crates below say what these are. A page is refused for one cause ([`one_refusal`]), the answers exclude each other
+//! ([`one_answer`]), and what `check` tells of a page that fails is accepted by `verify` ([`told_witness_is_accepted`]).
 //!
 //! Over a source that tells its bytes the clause speaks of those bytes; over files of the system it keeps its
-//! causes, and says nothing of what a file holds. It doesn't say that memory is there.
+//! causes, of whatever bytes were read, and says nothing of what a file holds. It doesn't say that memory is there, nor that
+//! the witness is opened after the page is judged.
 #![tactic(auto)]
 
 mod checking;
 mod laws;
 mod loading;
-mod numerals;
+mod obeying;
+mod opening;
 mod outcome;
-mod reading;
 mod refusal;
 mod running;
 mod status;
 mod telling;
 mod tint_line;
-mod words;
+mod tinting;
+mod verifying;
 
-pub use laws::{lamp_page_is_loaded, one_answer, one_refusal};
+pub use flash_words::{Command, WordsFault, command};
+pub use laws::{one_answer, one_refusal, told_witness_is_accepted};
 pub use outcome::Outcome;
-pub use reading::command;
+pub use page_loader::{LoadFault, load};
 pub use refusal::PageRefusal;
 pub use running::run;
 pub use status::Status;
-pub use words::{Command, WordsFault};

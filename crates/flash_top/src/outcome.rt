@@ -1,8 +1,9 @@
 // What a run finds out, before it is told.
 use crate::refusal::PageRefusal;
-use page_model::{NoMemory, Tint, Witness};
+use flash_witness::WitnessFault;
+use page_model::{Tint, Witness};
 
-/// What the words, the page and its judgement come to.
+/// What the words, the files that they name and the judgement come to.
 #[derive(Drop)]
 pub enum Outcome {
     /// The words spell no command.
@@ -11,22 +12,26 @@ pub enum Outcome {
     ReadFault,
     /// The page is refused.
     Refused(PageRefusal),
-    /// The page is none that can be judged yet.
+    /// The page is none that can be judged, or painted, yet.
     NotYet,
-    /// No window is bad, from the first frame on for ever; so many frames were needed to know it.
+    /// No window is bad, from the first frame on for ever; so many windows were looked at.
     Pass { frames: u32 },
     /// A window is bad.
     Fail(Witness),
+    /// More than 100,000 windows would have to be looked at.
+    TooManyFrames,
+    /// Cells times frames are more than 4,194,304.
+    TooMuchWork { cells: u32, frames: u32 },
+    /// No window is surely bad, and this one is possibly bad: its first frame, and the upper left pixel of the rectangle.
+    Enclosed { start: u32, x: i32, y: i32 },
+    /// The file of the witness is too long, or the text of none.
+    NoWitness,
+    /// The witness isn't accepted.
+    Unaccepted(WitnessFault),
+    /// The witness is accepted: the first frame of its window, and its area in pixels.
+    Accepted { start: u32, area: u32 },
     /// The tint of a pixel.
     Painted(Tint),
-    /// More than 100,000 frames would be needed.
-    TooManyFrames,
     /// Memory was refused.
     NoMemory,
-}
-
-impl From<NoMemory> for Outcome {
-    fn from(_: NoMemory) -> Self {
-        Outcome::NoMemory
-    }
 }

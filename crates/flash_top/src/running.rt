@@ -1,11 +1,11 @@
 // The call that `main` makes.
 ghost use Rattle.std.specs.Prelude.{◌≡◌, map, string_bytes};
-ghost use Rattle.flash_top.specs.Outcomes.{IsOutcome, MayOpenPage};
+ghost use Rattle.flash_top.specs.Outcomes.{IsOutcome, MayOpenFiles};
 ghost use Rattle.flash_top.specs.Telling.{Tells};
 ghost use Rattle.flash_top.specs.Texts.{HasOwnText, IsToldFor, status_of, text_of};
 ghost use Rattle.flash_top.specs.declared.outcome.Outcome.{Outcome as Found};
 
-use crate::checking::outcome_of;
+use crate::obeying::outcome_of;
 use crate::outcome::Outcome;
 use crate::status::Status;
 use crate::telling::{fixed_text, own_text, status, tell};
@@ -13,19 +13,19 @@ use io_edge::{Sink, Source};
 use page_model::NoMemory;
 use std::alloc::Global;
 
-/// Does what the words ask for: reads the page that they name from the source, judges it, writes one
-/// text to the sink, and tells how it went.
+/// Does what the words ask for: reads the files that they name from the source, judges the page or tests the
+/// witness, writes one text to the sink, and tells how it went.
 ///
 /// The clause is the whole promise of the program. There is an outcome whose cause holds, and what was
 /// written is its text and the status its status; or the sink counted a fault, and what was written is
-/// the beginning of that text. No file is opened but the page that the words name.
+/// the beginning of that text. No file is opened but those that the words name.
 pub fn run<S: Source, K: Sink>(
     alloc: Global,
     words: &[String],
     source: &mut S,
     sink: &mut K,
 ) -> Status
-    requires { MayOpenPage (map string_bytes words.now) (S.may_open source.old) }
+    requires { MayOpenFiles (map string_bytes words.now) (S.may_open source.old) }
     ensures { (outcome : Found)
         × IsOutcome (map string_bytes words.now) (S.files source.old) (S.faults source.old) (S.faults source.new) outcome
         × Tells (record {

@@ -3,9 +3,9 @@
 /// The exit status of a run.
 #[derive(Clone, Copy, Debug, PartialEq, Eq)]
 pub enum Status {
-    /// 0: `check` answers pass.
+    /// 0: `check` answers pass, a witness is accepted, or a tint is told.
     Pass,
-    /// 1: `check` answers fail, and the text is the witness.
+    /// 1: `check` answers fail, and the text is the witness; or a witness isn't accepted.
     Bad,
     /// 2: `check` answers undecided.
     Undecided,

@@ -1,13 +1,14 @@
 // The text and the status of an outcome, and how they are told.
 ghost use Rattle.std.specs.Prelude.{◌≡◌, ◌++◌, ◌∷◌, [], IfOk, MatchOption, string_bytes};
 ghost use Rattle.flash_top.specs.Telling.{Tells};
+ghost use Rattle.flash_top.specs.declared.outcome.Outcome.TheVariants.{Accepted, Enclosed, TooMuchWork, Unaccepted};
 ghost use Rattle.flash_top.specs.Texts.{HasOwnLine, HasOwnText, line_of, refusal_line, status_of, text_of};
 
 use crate::outcome::Outcome;
 use crate::refusal::PageRefusal;
 use crate::status::Status;
 use crate::tint_line::tint_line;
-use flash_witness::to_text;
+use flash_witness::{WitnessFault, to_text};
 use io_edge::{Sink, write_all};
 use page_model::NoMemory;
 use std::alloc::Global;
@@ -20,9 +21,11 @@ pub(crate) fn status(outcome: &Outcome) -> Status
         Outcome::WordsRefused => Status::Words,
         Outcome::ReadFault => Status::ReadFault,
         Outcome::Refused(_) | Outcome::NotYet => Status::Page,
-        Outcome::Pass { .. } | Outcome::Painted(_) => Status::Pass,
-        Outcome::Fail(_) => Status::Bad,
-        Outcome::TooManyFrames => Status::Undecided,
+        Outcome::Pass { .. } | Outcome::Accepted { .. } | Outcome::Painted(_) => Status::Pass,
+        Outcome::Fail(_) | Outcome::NoWitness | Outcome::Unaccepted(_) => Status::Bad,
+        Outcome::TooManyFrames | Outcome::TooMuchWork { .. } | Outcome::Enclosed { .. } => {
+            Status::Undecided
+        }
         Outcome::NoMemory => Status::NoMemory,
     }
 }
@@ -70,6 +73,35 @@ fn own_line(alloc: Global, refusal: &PageRefusal) -> Result<String, NoMemory>
     })
 }
 
+/// The line of too many cells in the frames that would have to be looked at.
+fn work_line(alloc: Global, cells: u32, frames: u32) -> Result<String, NoMemory>
+    ensures { IfOk result (λ text. string_bytes text ≡ line_of (TooMuchWork cells frames)) }
+{
+    Ok(format!(in alloc; "undecided: {cells} cells in {frames} frames")?)
+}
+
+/// The line of a window that is possibly bad.
+fn window_line(alloc: Global, start: u32, x: i32, y: i32) -> Result<String, NoMemory>
+    ensures { IfOk result (λ text. string_bytes text ≡ line_of (Enclosed start x y)) }
+{
+    Ok(format!(in alloc; "undecided: enclosure at start {start}, rectangle {x} {y}")?)
+}
+
+/// The line of a witness that isn't accepted: the number of its first condition that fails.
+fn fault_line(alloc: Global, fault: &WitnessFault) -> Result<String, NoMemory>
+    ensures { IfOk result (λ text. string_bytes text ≡ line_of (Unaccepted fault.now)) }
+{
+    let condition = fault.condition();
+    Ok(format!(in alloc; "refused: condition {condition}")?)
+}
+
+/// The line of a witness that is accepted.
+fn accepted_line(alloc: Global, start: u32, area: u32) -> Result<String, NoMemory>
+    ensures { IfOk result (λ text. string_bytes text ≡ line_of (Accepted start area)) }
+{
+    Ok(format!(in alloc; "accepted: start {start}, area {area}")?)
+}
+
 /// The text of an outcome whose words are always the same, which takes no memory.
 pub(crate) fn fixed_text(outcome: &Outcome) -> Option<&'static [u8]>
     ensures { MatchOption result (HasOwnText outcome.now) (λ text. text.now ≡ text_of outcome.now) }
@@ -79,8 +111,15 @@ pub(crate) fn fixed_text(outcome: &Outcome) -> Option<&'static [u8]>
         Outcome::ReadFault => Some(b"cannot read\n".as_slice()),
         Outcome::Refused(refusal) => fixed_line(refusal),
         Outcome::NotYet => Some(b"page: not yet\n".as_slice()),
-        Outcome::Pass { .. } | Outcome::Fail(_) | Outcome::Painted(_) => None,
         Outcome::TooManyFrames => Some(b"undecided: more than 100000 frames\n".as_slice()),
+        Outcome::NoWitness => Some(b"refused: not a witness\n".as_slice()),
+        Outcome::Pass { .. }
+        | Outcome::Fail(_)
+        | Outcome::TooMuchWork { .. }
+        | Outcome::Enclosed { .. }
+        | Outcome::Unaccepted(_)
+        | Outcome::Accepted { .. }
+        | Outcome::Painted(_) => None,
         Outcome::NoMemory => Some(b"no memory\n".as_slice()),
     }
 }
@@ -94,6 +133,10 @@ pub(crate) fn own_text(alloc: Global, outcome: &Outcome) -> Result<Vec<u8>, NoMe
         Outcome::Refused(refusal) => own_line(alloc, refusal)?.into_bytes(),
         Outcome::Pass { frames } => format!(in alloc; "pass: frames {frames}")?.into_bytes(),
         Outcome::Fail(witness) => to_text(alloc, witness)?,
+        Outcome::TooMuchWork { cells, frames } => work_line(alloc, *cells, *frames)?.into_bytes(),
+        Outcome::Enclosed { start, x, y } => window_line(alloc, *start, *x, *y)?.into_bytes(),
+        Outcome::Unaccepted(fault) => fault_line(alloc, fault)?.into_bytes(),
+        Outcome::Accepted { start, area } => accepted_line(alloc, *start, *area)?.into_bytes(),
         Outcome::Painted(tint) => tint_line(alloc, tint)?.into_bytes(),
         _ => unreachable!(),
     };

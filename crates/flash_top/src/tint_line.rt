@@ -12,7 +12,7 @@ struct Hex(Rgb);
 
 impl fmt::Display for Hex {
     ghost use Rattle.std.specs.Prelude.{Some};
-    ghost use Rattle.flash_witness.specs.TintText.{colour_text};
+    ghost use Rattle.witness_text.specs.TintText.{colour_text};
 
     ghost output = { λ h. Some (colour_text h.0) };
 

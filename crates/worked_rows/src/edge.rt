@@ -1,5 +1,5 @@
 // The edge: words, pages that are refused, and sources and sinks that fail.
-use crate::running::{ROOM, lamp, run_on, run_over, source_of};
+use crate::running::{ROOM, page_of, run_on, run_over, source_of};
 use flash_top::Status;
 use std::test::Fail;
 
@@ -41,7 +41,7 @@ fn pages_that_are_refused(rt: HostRuntime) -> Result<(), Fail> {
 
 #[test]
 fn faults_of_source_and_sink(rt: HostRuntime) -> Result<(), Fail> {
-    let page = lamp(rt.alloc(), "#000000", "#ffffff", "286ms steps(1) 20")?;
+    let page = page_of(rt.alloc(), "", "")?;
 
     let missing = run_on(rt.alloc(), "check q 1024x768 60", page.as_bytes())?;
     assert_eq!(rt; missing.status, Status::ReadFault);

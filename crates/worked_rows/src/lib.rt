@@ -9,6 +9,8 @@
 #[cfg(test)]
 mod banner;
 #[cfg(test)]
+mod boxes;
+#[cfg(test)]
 mod edge;
 #[cfg(test)]
 mod lamps;
@@ -22,3 +24,5 @@ mod running;
 mod sheets;
 #[cfg(test)]
 mod tints;
+#[cfg(test)]
+mod witnesses;

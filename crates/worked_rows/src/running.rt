@@ -50,6 +50,13 @@ pub fn run_on(alloc: Global, line: &str, page: &[u8]) -> Result<Told, Fail> {
     run_over(alloc, line, &mut source, ROOM)
 }
 
+/// The run of these words where the file `p` has these bytes, and the file `w` those.
+pub fn run_on_both(alloc: Global, line: &str, page: &[u8], witness: &[u8]) -> Result<Told, Fail> {
+    let mut source = source_of(alloc, page)?;
+    source.add("w", witness)?;
+    run_over(alloc, line, &mut source, ROOM)
+}
+
 /// A lamp's page: two colours, and what its animation does.
 pub fn lamp(alloc: Global, first: &str, second: &str, animation: &str) -> Result<String, Fail> {
     let page = format!(in alloc;

@@ -24,9 +24,17 @@ const STEPS: &str =
 const MOVING: &str =
     ".b{position:absolute;background-color:#000000;left:10px;top:10px;width:20px;height:20px;animation:m 2s linear infinite alternate}@keyframes m{to{left:11px}}";
 
+/// A body whose animation has no duration, and so is over at once.
+const AT_ONCE: &str =
+    "body{background-color:#000000;animation:f 0s steps(1) infinite forwards}@keyframes f{0%{background-color:#000000}50%{background-color:#ffffff}}";
+
+/// A body that fades to white and half way back, and stays there.
+const FADE: &str =
+    "body{background-color:#000000;animation:f 1s linear 1.5 alternate forwards}@keyframes f{from{background-color:#000000}to{background-color:#ffffff}}";
+
 const ONE_BOX: &str = "<div class=\"b\"></div>";
 
-const ROWS: [Row; 8] = [
+const ROWS: [Row; 13] = [
     Row {
         style: HALF,
         boxes: ONE_BOX,
@@ -61,6 +69,41 @@ const ROWS: [Row; 8] = [
         words: "tint p 1024x768 60 36 1023 767",
         status: Status::Pass,
         text: "#ffffff\n",
+    },
+    Row {
+        style: AT_ONCE,
+        boxes: "",
+        words: "tint p 1024x768 60 0 0 0",
+        status: Status::Pass,
+        text: "#000000\n",
+    },
+    Row {
+        style: AT_ONCE,
+        boxes: "",
+        words: "tint p 1024x768 60 7 0 0",
+        status: Status::Pass,
+        text: "#000000\n",
+    },
+    Row {
+        style: FADE,
+        boxes: "",
+        words: "tint p 1024x768 60 75 0 0",
+        status: Status::Pass,
+        text: "#bfbfbf\n",
+    },
+    Row {
+        style: FADE,
+        boxes: "",
+        words: "tint p 1024x768 60 90 0 0",
+        status: Status::Pass,
+        text: "#808080\n",
+    },
+    Row {
+        style: FADE,
+        boxes: "",
+        words: "tint p 1024x768 60 4000000000 0 0",
+        status: Status::Pass,
+        text: "#808080\n",
     },
     Row {
         style: MOVING,

@@ -1,11 +1,12 @@
-use Rattle.flash_top.proofs.AnswerLemmas.{refusal_is_answer, still_is_answer, unjudged_is_answer}
+use Rattle.flash_top.proofs.AcceptedLemmas.{one_verified}
+use Rattle.flash_top.proofs.AnswerLemmas.{one_tint, one_verdict}
 use Rattle.flash_top.proofs.laws.one_answer.Goals as goal
 
-pub returns-clause-refused : goal.returns-clause-refused
-returns-clause-refused c = refusal_is_answer
+pub returns-clause-check : goal.returns-clause-check
+returns-clause-check c = one_verdict
 
-pub returns-clause-still : goal.returns-clause-still
-returns-clause-still c = still_is_answer
+pub returns-clause-verify : goal.returns-clause-verify
+returns-clause-verify c = one_verified
 
-pub returns-clause-unjudged : goal.returns-clause-unjudged
-returns-clause-unjudged c = unjudged_is_answer
+pub returns-clause-tint : goal.returns-clause-tint
+returns-clause-tint c = one_tint

@@ -1,6 +1,6 @@
 -- What the three holes write are the channels' texts.
 use Rattle.std.proofs.Common.{rules}
-use Rattle.flash_witness.proofs.Hex.{padded_channel}
+use Rattle.witness_text.proofs.Hex.{padded_channel}
 use Rattle.flash_top.proofs.tint_line.HexDisplay.fmt.Goals as goal
 
 pub returns-clause-writes : goal.returns-clause-writes

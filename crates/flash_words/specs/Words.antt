@@ -1,0 +1,74 @@
+-- Which words spell which command.
+use Rattle.std.specs.Prelude.{◌≡◌, ◌<◌, ◌^◌, ◌⊎◌, ℕ, List, [], ◌∷◌, ◌++◌, Ok, codes, decimal, get_or}
+use Rattle.page_model.specs.Viewing.{Viewing, setup_of}
+use Rattle.flash_words.specs.declared.words.Command.{Command}
+use Rattle.flash_words.specs.declared.words.Command.TheVariants.{Check, Verify, Tint}
+
+-- SIZE and RATE spell a setup: SIZE is its width, an `x` (120) and its height, and RATE its rate, each number
+-- in decimal digits, with no sign and with no leading zero but in 0 itself
+pub record SpellsSetup (size rate : List ℕ) (setup : Viewing) : Type 0 where
+  pub width : ℕ
+  pub height : ℕ
+  pub frames_per_second : ℕ
+  pub size_is : size ≡ decimal width ++ 120 ∷ decimal height
+  pub rate_is : rate ≡ decimal frames_per_second
+  pub setup_is : setup_of width height frames_per_second ≡ Ok setup
+
+-- `check` PAGE SIZE RATE, where any word is a PAGE: judge the page that the word at place 1 names
+pub record SpellsCheck (words : List (List ℕ)) (page : ℕ) (setup : Viewing) : Type 0 where
+  pub page_name : List ℕ
+  pub size : List ℕ
+  pub rate : List ℕ
+  pub words_are : words ≡ codes "check" ∷ page_name ∷ size ∷ rate ∷ []
+  pub page_is : page ≡ 1
+  pub setup_is : SpellsSetup size rate setup
+
+-- `verify` PAGE WITNESS SIZE RATE, where any word is a PAGE or a WITNESS: test the witness that the word at place 2 names against the
+-- page that the word at place 1 names
+pub record SpellsVerify (words : List (List ℕ)) (page witness : ℕ) (setup : Viewing) : Type 0 where
+  pub page_name : List ℕ
+  pub witness_name : List ℕ
+  pub size : List ℕ
+  pub rate : List ℕ
+  pub words_are : words ≡ codes "verify" ∷ page_name ∷ witness_name ∷ size ∷ rate ∷ []
+  pub page_is : page ≡ 1
+  pub witness_is : witness ≡ 2
+  pub setup_is : SpellsSetup size rate setup
+
+-- a frame, and a pixel of the viewport by its column and row
+pub record Spot : Type 0 where
+  pub frame : ℕ
+  pub column : ℕ
+  pub row : ℕ
+
+-- the pixel lies in the viewport, and the frame is a number below 2^32
+pub record IsSpot (setup : Viewing) (spot : Spot) : Type 0 where
+  pub frame_limit : spot.frame < 2 ^ 32
+  pub left_of : spot.column < setup.width
+  pub above : spot.row < setup.height
+
+-- `tint` PAGE SIZE RATE FRAME X Y, where any word is a PAGE: the tint of a pixel in a frame of the page that the word at place 1 names
+pub record SpellsTint (words : List (List ℕ)) (page : ℕ) (setup : Viewing) (spot : Spot) : Type 0 where
+  pub page_name : List ℕ
+  pub size : List ℕ
+  pub rate : List ℕ
+  pub words_are : words ≡ codes "tint" ∷ page_name ∷ size ∷ rate ∷ decimal spot.frame ∷ decimal spot.column ∷ decimal spot.row ∷ []
+  pub page_is : page ≡ 1
+  pub setup_is : SpellsSetup size rate setup
+  pub spot_is : IsSpot setup spot
+
+-- the words spell the command: its name and what goes with it, in this order, and no more
+abbrev pub Spells : List (List ℕ) → Command → Type 0
+Spells words (Check page setup) = SpellsCheck words page setup
+Spells words (Verify page witness setup) = SpellsVerify words page witness setup
+Spells words (Tint page setup frame x y) = SpellsTint words page setup (record { frame = frame; column = x; row = y })
+
+-- a command names a file by the word at this place
+abbrev pub NamesFile : Command → ℕ → Type 0
+NamesFile (Check page setup) place = place ≡ page
+NamesFile (Verify page witness setup) place = (place ≡ page) ⊎ (place ≡ witness)
+NamesFile (Tint page setup frame x y) place = place ≡ page
+
+-- the word at a place
+abbrev pub word_at : List (List ℕ) → ℕ → List ℕ
+word_at words place = get_or words place []

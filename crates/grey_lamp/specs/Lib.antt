@@ -1,5 +1,0 @@
-pub mod Chain
-pub mod Colour
-pub mod Course
-pub mod Page
-pub mod Verdict

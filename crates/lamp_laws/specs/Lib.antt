@@ -1,2 +1,0 @@
-pub mod LampScene
-pub mod LampSheet

@@ -1,0 +1,230 @@
+// Witnesses of a lamp that flashes, accepted and refused.
+use crate::running::{lamp, run_on, run_on_both};
+use flash_top::Status;
+use std::alloc::Global;
+use std::test::Fail;
+
+const AT_60: &str = "verify p w 1024x768 60";
+
+const FRAMES: &str = "0,8,15,23,30,38,45,53,60";
+
+const TINTS: &str =
+    r#""000000","ffffff","000000","ffffff","000000","ffffff","000000","ffffff","000000""#;
+
+/// A witness of one part, or of that part twice, the words that test it, and what is told.
+#[derive(Clone, Copy)]
+struct Row {
+    shows: &'static str,
+    words: &'static str,
+    frames: &'static str,
+    tints: &'static str,
+    width: u32,
+    x: u32,
+    twice: bool,
+    area: u32,
+    status: Status,
+    text: &'static str,
+}
+
+/// What `check` tells of the lamp.
+const TOLD: Row = Row {
+    shows: "told_witness",
+    words: AT_60,
+    frames: FRAMES,
+    tints: TINTS,
+    width: 341,
+    x: 0,
+    twice: false,
+    area: 87_296,
+    status: Status::Pass,
+    text: "accepted: start 0, area 87296\n",
+};
+
+const REFUSED: [Row; 12] = [
+    Row {
+        shows: "other_rate",
+        words: "verify p w 1024x768 50",
+        status: Status::Bad,
+        text: "refused: condition 1\n",
+        ..TOLD
+    },
+    Row {
+        shows: "part_of_no_width",
+        width: 0,
+        status: Status::Bad,
+        text: "refused: condition 2\n",
+        ..TOLD
+    },
+    Row {
+        shows: "part_outside_the_viewport",
+        x: 1000,
+        status: Status::Bad,
+        text: "refused: condition 2\n",
+        ..TOLD
+    },
+    Row {
+        shows: "part_twice",
+        twice: true,
+        status: Status::Bad,
+        text: "refused: condition 3\n",
+        ..TOLD
+    },
+    Row {
+        shows: "area_of_a_quarter",
+        area: 21_824,
+        status: Status::Bad,
+        text: "refused: condition 4\n",
+        ..TOLD
+    },
+    Row {
+        shows: "area_of_one_pixel_less",
+        area: 87_295,
+        status: Status::Bad,
+        text: "refused: condition 4\n",
+        ..TOLD
+    },
+    Row {
+        shows: "small_area",
+        width: 85,
+        area: 21_760,
+        status: Status::Bad,
+        text: "refused: condition 5\n",
+        ..TOLD
+    },
+    Row {
+        shows: "frames_out_of_order",
+        frames: "0,15,8,23,30,38,45,53,60",
+        status: Status::Bad,
+        text: "refused: condition 6\n",
+        ..TOLD
+    },
+    Row {
+        shows: "frame_behind_the_window",
+        frames: "0,8,15,23,30,38,45,53,61",
+        status: Status::Bad,
+        text: "refused: condition 7\n",
+        ..TOLD
+    },
+    Row {
+        shows: "frame_before_the_change",
+        frames: "0,7,15,23,30,38,45,53,60",
+        status: Status::Bad,
+        text: "refused: condition 8\n",
+        ..TOLD
+    },
+    Row {
+        shows: "wrong_tint",
+        tints: r#""000000","fffffe","000000","ffffff","000000","ffffff","000000","ffffff","000000""#,
+        status: Status::Bad,
+        text: "refused: condition 8\n",
+        ..TOLD
+    },
+    Row {
+        shows: "seven_changes",
+        frames: "0,8,15,23,30,38,45,53,54",
+        tints: r#""000000","ffffff","000000","ffffff","000000","ffffff","000000","ffffff","ffffff""#,
+        status: Status::Bad,
+        text: "refused: condition 9\n",
+        ..TOLD
+    },
+];
+
+/// The text of a row's witness.
+fn witness_of(alloc: Global, row: &Row) -> Result<String, Fail> {
+    let part = format!(in alloc;
+        "{{\"frames\":[{}],\"height\":256,\"kind\":\"general\",\"tints\":[{}],\"width\":{},\"x\":{},\"y\":0}}",
+        row.frames, row.tints, row.width, row.x
+    )?;
+    let parts = if row.twice {
+        format!(in alloc; "{part},{part}")?
+    } else {
+        part
+    };
+    let text = format!(in alloc;
+        "{{\"area\":{},\"height\":768,\"parts\":[{parts}],\"rate\":60,\"start\":0,\"verdict\":\"fail\",\"version\":1,\"width\":1024,\"x\":0,\"y\":0}}",
+        row.area
+    )?;
+    Ok(text)
+}
+
+/// The lamp that flashes.
+fn flashing(alloc: Global) -> Result<String, Fail> {
+    lamp(alloc, "#000000", "#ffffff", "250ms steps(1) 20")
+}
+
+#[test]
+fn told_witness_is_accepted(rt: HostRuntime) -> Result<(), Fail> {
+    let page = flashing(rt.alloc())?;
+    let told = run_on(rt.alloc(), "check p 1024x768 60", page.as_bytes())?;
+    let tested = run_on_both(
+        rt.alloc(),
+        TOLD.words,
+        page.as_bytes(),
+        told.text.as_slice(),
+    )?;
+    assert_eq!(rt; tested.text.as_slice(), TOLD.text.as_bytes());
+    assert_eq!(rt; tested.status, TOLD.status);
+    Ok(())
+}
+
+#[test]
+fn first_condition_that_fails(rt: HostRuntime) -> Result<(), Fail> {
+    let page = flashing(rt.alloc())?;
+    for row in REFUSED.iter() {
+        let witness = witness_of(rt.alloc(), row)?;
+        let told = run_on_both(rt.alloc(), row.words, page.as_bytes(), witness.as_bytes())?;
+        assert_eq!(rt; told.text.as_slice(), row.text.as_bytes(), "{}", row.shows);
+        assert_eq!(rt; told.status, row.status, "{}", row.shows);
+    }
+    Ok(())
+}
+
+#[test]
+fn bytes_that_are_no_witness(rt: HostRuntime) -> Result<(), Fail> {
+    let page = flashing(rt.alloc())?;
+    for text in ["", "{}", "[]", "{\"area\":87296}"] {
+        let told = run_on_both(rt.alloc(), AT_60, page.as_bytes(), text.as_bytes())?;
+        assert_eq!(rt;
+            told.text.as_slice(),
+            b"refused: not a witness\n".as_slice(),
+            "{text}"
+        );
+        assert_eq!(rt; told.status, Status::Bad, "{text}");
+    }
+    Ok(())
+}
+
+/// A page with a file of a witness that isn't there, and what is told: the witness is opened only where the page is judged.
+struct Missing {
+    page: &'static str,
+    status: Status,
+    text: &'static str,
+}
+
+const MISSING: [Missing; 3] = [
+    Missing {
+        page: "<!DOCTYPE html><html><head></head><body><p></p></body></html>",
+        status: Status::Page,
+        text: "page: bad text at 40\n",
+    },
+    Missing {
+        page: "<!DOCTYPE html><html><head><style>body{background-color:#000000;animation:f 1s infinite}@keyframes f{to{background-color:#ffffff}}</style></head><body></body></html>",
+        status: Status::Page,
+        text: "page: not yet\n",
+    },
+    Missing {
+        page: "<!DOCTYPE html><html><head></head><body></body></html>",
+        status: Status::ReadFault,
+        text: "cannot read\n",
+    },
+];
+
+#[test]
+fn page_is_judged_before_the_witness_is_opened(rt: HostRuntime) -> Result<(), Fail> {
+    for row in MISSING.iter() {
+        let told = run_on(rt.alloc(), AT_60, row.page.as_bytes())?;
+        assert_eq!(rt; told.text.as_slice(), row.text.as_bytes(), "{}", row.page);
+        assert_eq!(rt; told.status, row.status, "{}", row.page);
+    }
+    Ok(())
+}
