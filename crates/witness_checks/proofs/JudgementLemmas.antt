@@ -41,10 +41,10 @@ accepted-from scene setup w tinted all run states = record {
 }
 
 -- a part of which something doesn't hold
-part-refuted : (Holds : Part → Type 0) (parts : List Part) (number : ℕ) → IsFirstPart Holds parts number → All Holds parts → ⊥
+pub part-refuted : (Holds : Part → Type 0) (parts : List Part) (number : ℕ) → IsFirstPart Holds parts number → All Holds parts → ⊥
 part-refuted Holds parts number first all = first.broken (part-has Holds parts number first.part all first.there)
 
-tint-refuted : (scene : Scene) (setup : Setup) (w : Witness) (run : LooseRun) (part turn x y : ℕ) → IsLooseRunIn own scene setup w.start run
+pub tint-refuted : (scene : Scene) (setup : Setup) (w : Witness) (run : LooseRun) (part turn x y : ℕ) → IsLooseRunIn own scene setup w.start run
     → IsWrongTint scene setup w part turn x y → All (HasTints (tints_of scene run)) w.parts → ⊥
 tint-refuted scene setup w run part turn x y states wrong all =
     let first = wrong.first run states in

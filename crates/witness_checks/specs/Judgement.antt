@@ -7,7 +7,7 @@ use Rattle.page_model.specs.declared.witness.Part.{Part}
 use Rattle.page_model.specs.declared.witness.Witness.{Witness}
 use Rattle.frame_state.specs.Scenes.{is_coloured}
 use Rattle.witness_laws.specs.Acceptance.{IsAccepted}
-use Rattle.witness_checks.specs.Faults.{IsFirstFault}
+use Rattle.witness_checks.specs.Faults.{IsFirstFault, condition_of}
 use Rattle.witness_checks.specs.declared.fault.WitnessFault.{WitnessFault}
 
 -- all nine conditions hold, or this is the first that fails
@@ -23,3 +23,9 @@ NeedsNoRed scene w = All (λ (part : Part). part.kind ≡ General) w.parts ⊎ (
 abbrev pub AreTested : (Setup → Witness → Type 0) → Setup → Witness → Result (Unit {0}) WitnessFault → Type 0
 AreTested Hold setup w (Ok nothing) = Hold setup w
 AreTested Hold setup w (Err fault) = (scene : Scene) → IsFirstFault scene setup w fault
+
+-- all first faults of a witness are of one condition, at whatever place they are
+abbrev pub OneCondition : Type 0
+OneCondition =
+    (scene : Scene) (setup : Setup) (w : Witness) (one other : WitnessFault) → IsFirstFault scene setup w one → IsFirstFault scene setup w other
+    → condition_of one ≡ condition_of other

@@ -4,7 +4,7 @@
 //! one, and trusts nothing that is stated: it computes the states of the page's layers in each stated frame, and paints each stated
 //! pixel. It stands on nothing of the judge, neither its cells nor its sweep, and takes no memory. The key clauses: Ok comes exactly
 //! where all nine conditions hold, and then the window is bad at the stated position; a fault is the first condition that fails, at the
-//! first place where it does.
+//! first place where it does, and all faults that can be told of a witness are of one condition ([`one_condition`]).
 //!
 //! How a witness is written and read is `flash_witness`'s to say. Red flashes aren't judged yet: a part of that kind is refused, which
 //! is right in scenes without colours.
@@ -16,6 +16,7 @@ mod change;
 mod fault;
 mod frames;
 mod kept;
+mod laws;
 mod overlap;
 mod place;
 #[cfg(test)]
@@ -24,3 +25,4 @@ mod tints;
 
 pub use accepting::accepts;
 pub use fault::WitnessFault;
+pub use laws::one_condition;
