@@ -5,9 +5,10 @@ use Rattle.page_model.specs.declared.scene.Scene.{Scene}
 use Rattle.page_model.specs.declared.witness.Witness.{Witness}
 use Rattle.page_judge.specs.Judgement.{can_be_judged}
 use Rattle.page_judge.proofs.JudgedLemmas.{grey-of}
-use Rattle.witness_checks.specs.Faults.{IsFirstFault}
+use Rattle.witness_checks.specs.Faults.{IsFirstFault, condition_of}
 use Rattle.witness_checks.specs.declared.fault.WitnessFault.{WitnessFault}
 use Rattle.witness_checks.proofs.JudgementLemmas.{fault-refutes}
+use Rattle.witness_checks.proofs.OneLemmas.{one-condition}
 use Rattle.witness_text.proofs.ReadLemmas.{one_witness}
 use Rattle.flash_top.specs.SameAnswers.{AreEqual, OneVerified, TellFaults}
 use Rattle.flash_top.specs.Verdicts.{HasNoWitness, HasWitness, IsGoodWitness, IsNoWitness, IsVerdict, IsVerified, IsWitnessFile}
@@ -73,7 +74,14 @@ good_or_faulty setup scene text fault start area faulty good =
     let first = subst (λ (witness : Witness). IsFirstFault scene setup witness fault) same faulty.holds in
     fault-refutes scene setup good.witness fault first (inr (grey-of scene good.judged)) good.holds.accepted
 
--- and tells one start and one area
+-- one that isn't has first faults of one condition
+faulty_once : (setup : Viewing) (scene : Scene) (text : List ℕ) (fault other : WitnessFault) → HasWitness scene text (λ witness. IsFirstFault scene setup witness fault)
+    → HasWitness scene text (λ witness. IsFirstFault scene setup witness other) → condition_of fault ≡ condition_of other
+faulty_once setup scene text fault other is also =
+    let same : is.witness ≡ also.witness = one_witness text is.witness also.witness is.is_file.is_text also.is_file.is_text in
+    one-condition scene setup also.witness fault other (subst (λ (witness : Witness). IsFirstFault scene setup witness fault) same is.holds) also.holds
+
+-- and one that is tells one start and one area
 good_once : (setup : Viewing) (scene : Scene) (text : List ℕ) (start area other_start other_area : ℕ) → HasWitness scene text (λ witness. IsGoodWitness scene setup witness start area)
     → HasWitness scene text (λ witness. IsGoodWitness scene setup witness other_start other_area) → Accepted other_start other_area ≡ Accepted start area
 good_once setup scene text start area other_start other_area is also =
@@ -97,7 +105,13 @@ same_test setup text one other scene (inl (inr is)) (inr (inr also)) = absurd (w
 same_test setup text one other scene (inr (inl is)) (inl (inl also)) = absurd (judged_or_not scene also.unjudged is.has.judged)
 same_test setup text one other scene (inr (inl is)) (inl (inr also)) = absurd (witness_or_none text is.has.witness also.none.none is.has.is_file)
 same_test setup text one other scene (inr (inl is)) (inr (inl also)) =
-    inr (record { first = is.fault; second = also.fault; first_is = is.told_is; second_is = also.told_is })
+    inr (record {
+      first = is.fault;
+      second = also.fault;
+      same = faulty_once setup scene text is.fault also.fault is.has also.has;
+      first_is = is.told_is;
+      second_is = also.told_is;
+    })
 same_test setup text one other scene (inr (inl is)) (inr (inr also)) = absurd (good_or_faulty setup scene text is.fault also.start also.area is.has also.has)
 same_test setup text one other scene (inr (inr is)) (inl (inl also)) = absurd (judged_or_not scene also.unjudged is.has.judged)
 same_test setup text one other scene (inr (inr is)) (inl (inr also)) = absurd (witness_or_none text is.has.witness also.none.none is.has.is_file)

@@ -4,6 +4,7 @@ use Rattle.page_model.specs.Viewing.{Viewing}
 use Rattle.page_model.specs.declared.witness.Witness.{Witness}
 use Rattle.page_judge.specs.Judgement.{IsSameAnswer}
 use Rattle.page_judge.specs.declared.types.Judgement.{Judgement}
+use Rattle.witness_checks.specs.Faults.{condition_of}
 use Rattle.witness_checks.specs.declared.fault.WitnessFault.{WitnessFault}
 use Rattle.flash_top.specs.Steps.{told}
 use Rattle.flash_top.specs.Texts.{text_of}
@@ -24,10 +25,11 @@ pub record TellSame (one other : Outcome) : Type 0 where
   pub first_is : one ≡ told first
   pub second_is : other ≡ told second
 
--- they tell two faults of a witness
+-- they tell two faults of a witness, both of one condition
 pub record TellFaults (one other : Outcome) : Type 0 where
   pub first : WitnessFault
   pub second : WitnessFault
+  pub same : condition_of first ≡ condition_of second
   pub first_is : one ≡ Unaccepted first
   pub second_is : other ≡ Unaccepted second
 
@@ -37,7 +39,7 @@ OneVerdict =
     (setup : Viewing) (bytes : List ℕ) (one other : Outcome) → IsVerdict setup bytes one → IsVerdict setup bytes other
     → AreEqual one other ⊎ TellSame one other
 
--- with those of a witness to one by `verify`, but for which fault is told of a witness that isn't accepted
+-- with those of a witness to one by `verify`; of a witness that isn't accepted both answers tell the same condition, at whatever place it fails
 abbrev pub OneVerified : Type 0
 OneVerified =
     (setup : Viewing) (bytes text : List ℕ) (one other : Outcome) → IsVerified setup bytes text one → IsVerified setup bytes text other

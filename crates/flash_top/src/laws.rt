@@ -12,7 +12,7 @@ pub fn one_refusal()
 {}
 
 /// The answers of each command exclude each other, want of memory apart. Of two witnesses of a page that fails, both tell the same
-/// window, position and area; which fault is told of a witness that isn't accepted is `witness_checks`' to say.
+/// window, position and area; of two faults of a witness that isn't accepted, both tell the same condition.
 pub fn one_answer()
     ensures check { OneVerdict }
     ensures verify { OneVerified }
