@@ -1,0 +1,111 @@
+// The chosen part, and the table of all: a witness may have thousands, so the table shows some at a time.
+
+const ROWS = 20;
+
+const kindText = (part) => (part.kind === 'red' ? 'red' : 'general');
+
+function cell(text, className) {
+  const made = document.createElement('td');
+  made.textContent = text;
+  if (className) made.className = className;
+  return made;
+}
+
+// A row of the table, which chooses its part.
+function partRow(report, part) {
+  const row = document.createElement('tr');
+  const head = document.createElement('th');
+  const button = document.createElement('button');
+  head.scope = 'row';
+  button.type = 'button';
+  button.textContent = `Part ${number(part.index + 1)}`;
+  button.setAttribute('aria-pressed', String(part === report.chosen));
+  button.addEventListener('click', () => choose(report, part));
+  head.append(button);
+  row.append(head, cell(kindText(part)), cell(`${part.x}, ${part.y}`), cell(`${part.width} by ${part.height}`),
+    cell(number(part.area), 'number'), cell(percent(part.area), 'number'));
+  row.classList.toggle('is-chosen', part === report.chosen);
+  return row;
+}
+
+// Shows the page of the table that begins at this part.
+function showRows(report, from) {
+  const {ordered} = report.witness;
+  const last = Math.floor((ordered.length - 1) / ROWS) * ROWS;
+  report.from = Math.max(0, Math.min(from, last));
+  const shown = ordered.slice(report.from, report.from + ROWS);
+  document.querySelector('#list tbody').replaceChildren(...shown.map((part) => partRow(report, part)));
+  document.getElementById('range').textContent = `${number(report.from + 1)} to ${number(report.from + shown.length)} of ${number(ordered.length)}`;
+  const [isFirst, isLast] = [report.from === 0, report.from === last];
+  for (const [id, isAtEnd] of [['first', isFirst], ['back', isFirst], ['next', isLast], ['last', isLast]]) {
+    document.getElementById(id).disabled = isAtEnd;
+  }
+}
+
+// The buttons below the table, where it doesn't show all at once.
+function listenRows(report) {
+  const {ordered} = report.witness;
+  const steps = {first: () => 0, back: () => report.from - ROWS, next: () => report.from + ROWS, last: () => ordered.length};
+  for (const [id, to] of Object.entries(steps)) {
+    document.getElementById(id).addEventListener('click', () => showRows(report, to()));
+  }
+  const go = document.getElementById('go');
+  go.max = ordered.length;
+  go.addEventListener('change', () => {
+    const at = ordered.findIndex((part) => part.index === Number(go.value) - 1);
+    if (at < 0) return;
+    showRows(report, Math.floor(at / ROWS) * ROWS);
+    choose(report, ordered[at]);
+  });
+  document.getElementById('pager').hidden = ordered.length <= ROWS;
+}
+
+// The table of the nine frames of a part.
+function showTurns(report, part) {
+  const isRed = part.kind === 'red';
+  const heads = ['Frame', 'Time', 'Colour', isRed ? 'Share of red' : 'Relative luminance', isRed ? 'Change, by u′v′' : 'Change'];
+  const changes = changesOf(part);
+  const head = document.createElement('tr');
+  head.append(...heads.map((text) => Object.assign(document.createElement('th'), {textContent: text, scope: 'col'})));
+  const rows = part.tints.map((tint, turn) => {
+    const row = document.createElement('tr');
+    const range = rangeOf(tint, isRed ? redShareOf : luminanceOf);
+    const value = range.low === range.high ? range.low.toFixed(3) : `${range.low.toFixed(3)} to ${range.high.toFixed(3)}`;
+    const change = changes[turn - 1];
+    const colour = cell('');
+    colour.append(...swatch(tint));
+    row.append(cell(number(part.frames[turn])), cell(seconds(secondsOf(report.words, part.frames[turn]))), colour, cell(value),
+      cell(change ? `${change.isUp ? '▲' : '▼'} ${change.word}, ${change.by.toFixed(3)}` : ''));
+    return row;
+  });
+  document.querySelector('#turns thead').replaceChildren(head);
+  document.querySelector('#turns tbody').replaceChildren(...rows);
+}
+
+// Chooses a part: its graph, its frames and its pictures are shown.
+function choose(report, part) {
+  report.chosen = part;
+  document.getElementById('part-title').textContent = `Part ${number(part.index + 1)}`
+    + (report.witness.parts.length > 1 ? ` of ${number(report.witness.parts.length)}` : '');
+  document.getElementById('part-text').textContent = `${part.width} by ${part.height} pixels at ${part.x}, ${part.y}, which is `
+    + `${percent(part.area)} of the rectangle. All of them have the same colour in each of the nine frames: `
+    + `${part.kind === 'red' ? 'red' : 'general'} flashes.`;
+  document.getElementById('graph-text').textContent = graphText(part);
+  document.getElementById('part').hidden = false;
+  drawGraph(report, part);
+  showTurns(report, part);
+  outlineScene(report, report.witness, part);
+  showStrip(report, part);
+  showRows(report, report.from);
+}
+
+// The table, the first part of it chosen.
+function showParts(report) {
+  const count = report.witness.parts.length;
+  document.getElementById('parts-text').textContent = `The witness has ${counted(count, 'part', 'parts')}. Choose one to see its graph and its pictures.`;
+  document.getElementById('parts').hidden = false;
+  report.from = 0;
+  listenRows(report);
+  choose(report, report.witness.ordered[0]);
+  new ResizeObserver(() => drawGraph(report, report.chosen)).observe(document.getElementById('graph'));
+}
