@@ -87,17 +87,34 @@ function svg(name, attributes, ...parts) {
   return made;
 }
 
+// Lines across the picture to a box that is too small to be seen there, which leave the box itself free.
+function pointer(report, box) {
+  const {width, height} = report.words;
+  if (box.width > width / 25 || box.height > height / 25) return '';
+  const [x, y] = [box.x + box.width / 2, box.y + box.height / 2];
+  const gap = width / 50;
+  return `M0 ${y}H${x - gap}M${x + gap} ${y}H${width}M${x} 0V${y - gap}M${x} ${y + gap}V${height}`;
+}
+
+// So many outlines are told apart; more are tinted.
+const MOST_OUTLINES = 100;
+
 // Outlines over a picture: dark ones with a light rim, which show on every colour. The first class tells what they are.
 function outlinesOf(report, groups) {
   const {width, height} = report.words;
-  const paths = groups.flatMap(([name, boxes]) => ['rim', 'line'].map((kind) =>
-    svg('path', {class: `${name} ${kind}`, d: pathOf(boxes), 'vector-effect': 'non-scaling-stroke'})));
+  const paths = groups.flatMap(([name, boxes]) => {
+    if (boxes.length > MOST_OUTLINES) return [svg('path', {class: 'tinted', d: pathOf(boxes)})];
+    const outline = pathOf(boxes) + (name === 'chosen' ? pointer(report, boxes[0]) : '');
+    return ['rim', 'line'].map((kind) => svg('path', {class: `${name} ${kind}`, d: outline, 'vector-effect': 'non-scaling-stroke'}));
+  });
   return svg('svg', {class: 'outlines', viewBox: `0 0 ${width} ${height}`, 'aria-hidden': 'true'}, ...paths);
 }
 
 // Keeps a picture as wide as its place, by its scale.
 function fitted(report, box) {
-  box.style.aspectRatio = `${report.words.width} / ${report.words.height}`;
+  const ratio = report.words.width / report.words.height;
+  box.style.aspectRatio = ratio;
+  box.style.maxWidth = `min(100%, ${Math.max(report.words.width, 640)}px, ${Math.round(80 * ratio)}vh)`;
   new ResizeObserver(() => {
     box.style.setProperty('--scale', box.clientWidth / report.words.width);
   }).observe(box);

@@ -49,6 +49,7 @@ function showVerify(report) {
     ? 'The first command judges the page again and keeps the witness; the second tests the witness against the page, by code that shares with the '
       + 'first one only how a pixel is painted and what a change is. It prints accepted.'
     : 'This judges the page again, and prints the line that this report was made from.');
+  put('copy', isFail ? 'Copy the commands' : 'Copy the command');
   put('command', isFail ? `${check} >${file}\n${verify}` : check);
   const copy = document.getElementById('copy');
   copy.addEventListener('click', async () => {
@@ -74,7 +75,7 @@ function showPage(report) {
   const {answer, words} = report;
   if (answer.kind === 'fail') {
     const text = `The page at frame ${number(answer.witness.start)}, where the second begins. The bold outline is the 341 by 256 rectangle, `
-      + 'as far as it lies in the viewport; the thin ones are the parts that flash, and the dashed one is the part that is chosen.';
+      + 'as far as it lies in the viewport; the thin ones, or what is tinted where there are many, are the parts that flash, and the dashed one is the part that is chosen.';
     showScene(report, answer.witness.start, answer.witness, answer.witness.parts, text);
     listenPlay(report);
     showParts(report);

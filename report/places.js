@@ -1,7 +1,7 @@
 // The page's bytes around the place of a fault.
 
 // How many bytes of a long line are shown on either side of the place, and how many lines.
-const NEAR = 90;
+const NEAR = 70;
 const LINES = 2;
 
 // The places of the openings of body and boxes in a page, in their order: comments, styles and titles are passed over.
@@ -85,9 +85,12 @@ function showPlace(bytes, at) {
     rows.push(plainLine(bytes, to + 1, below.to, own_number + on));
     ({to} = below);
   }
-  document.getElementById('excerpt').replaceChildren(...rows);
+  const excerpt = document.getElementById('excerpt');
   const column = shown(bytes, own.from, at).length + 1;
   document.getElementById('place-text').textContent = `Byte ${number(at)} of the file, counted from 0: line ${number(own_number)}, `
     + `character ${number(column)}. It is marked.`;
   document.getElementById('place').hidden = false;
+  excerpt.replaceChildren(...rows);
+  const mark = excerpt.querySelector('mark');
+  if (mark.offsetLeft + mark.offsetWidth > excerpt.clientWidth) excerpt.scrollLeft = mark.offsetLeft - excerpt.clientWidth / 2;
 }

@@ -39,7 +39,7 @@ function sayFail(answer, words) {
   return {
     mark: 'Fail',
     title: 'Success criterion 2.3.1 is not met',
-    sentence: `The page contains something that flashes more than three times in a one-second period: ${kindsOf(witness)} `
+    sentence: `The page contains something that flashes more than three times in a one-second period: ${kindsOf(witness)}, `
       + `${whenOf(words, witness.start)}, in ${spot}, over ${number(witness.area)} of its pixels, which is `
       + `${percent(witness.area)} of it, where no more than 25 % (${number(ALLOWED)} pixels) may flash.`,
     facts: [
@@ -82,7 +82,7 @@ function sayPass(answer, words) {
 function sayUndecided(answer, words, sentence, why) {
   return {
     mark: 'Undecided',
-    title: 'Nothing was found out about success criterion 2.3.1',
+    title: 'Whether success criterion 2.3.1 is met is not known',
     sentence, facts: [], heading: 'Why, and what to change', why,
   };
 }
@@ -152,6 +152,6 @@ const LIMITS = [
     + 'a report can be changed by anybody who hands it on. Where it matters, run the program on the page yourself.',
   'The pictures are painted by your own browser from the bytes of the page, without its scripts and with its animations held at '
     + 'the frame. Where a browser paints other colours than the standards’ text says, they may differ from the numbers.',
-  'What was judged is the page of the criterion’s words, boxes with colours in one viewport at one rate of frames, under the reading of '
-    + 'CSS and WCAG that flash writes down. Text, images, video and scripts are not part of it, and neither is your display.',
+  'What was judged is the page’s boxes and their colours, in one viewport at one frame rate, by the reading of CSS and WCAG that flash '
+    + 'writes down in docs/MODEL.md. Text, images, video and scripts are not part of it, nor is what a display does with the frames.',
 ];
