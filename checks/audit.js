@@ -1,16 +1,17 @@
-// What a report is asked in a browser: an expression that gives the faults of its layout, its contrast, its names and its
-// movement, as a list of texts.
+// What a report is asked in a browser: an expression that gives the faults of its layout, its contrast, its names and
+// its movement, as a list of texts.
 (() => {
   const faults = [];
   const isShown = (it) => it.checkVisibility({visibilityProperty: true}) && it.getClientRects().length > 0;
 
   // Nothing is wider than the window, but what stands in a region that scrolls by itself.
-  const width = document.documentElement.clientWidth;
-  if (document.documentElement.scrollWidth > width) faults.push(`the page is ${document.documentElement.scrollWidth} wide in ${width}`);
+  const {clientWidth: width, scrollWidth: taken} = document.documentElement;
+  if (taken > width) faults.push(`the page is ${taken} wide in ${width}`);
   for (const it of document.querySelectorAll('main *, header *')) {
     const box = it.getBoundingClientRect();
     if (!isShown(it) || it.closest('.wide, .excerpt, .command, .frame-box, .skip') || box.width === 0) continue;
-    if (box.right > width + 1 || box.left < -1) faults.push(`${it.tagName} ${it.id || it.className} goes from ${box.left} to ${box.right}`);
+    const isIn = box.left >= -1 && box.right <= width + 1;
+    if (!isIn) faults.push(`${it.tagName} ${it.id || it.className} goes from ${box.left} to ${box.right}`);
   }
 
   // Text has a contrast of 4.5 to 1 with what is behind it.
@@ -18,9 +19,10 @@
     const [r, g, b, a = 1] = text.match(/[\d.]+/g).map(Number);
     return {r, g, b, a};
   };
-  const over = (top, low) => ({
-    r: top.r * top.a + low.r * (1 - top.a), g: top.g * top.a + low.g * (1 - top.a), b: top.b * top.a + low.b * (1 - top.a), a: 1,
-  });
+  const over = (top, low) => {
+    const mixed = (name) => top[name] * top.a + low[name] * (1 - top.a);
+    return {r: mixed('r'), g: mixed('g'), b: mixed('b'), a: 1};
+  };
   const behind = (it) => {
     const layers = [];
     for (let at = it; at; at = at.parentElement) {
@@ -40,7 +42,8 @@
   let least = 21;
   for (let node = walker.nextNode(); node; node = walker.nextNode()) {
     const it = node.parentElement;
-    if (!node.textContent.trim() || it.closest('script, style, noscript, .skip, dialog:not([open])') || !isShown(it)) continue;
+    const isHidden = it.closest('script, style, noscript, .skip, dialog:not([open])') || !isShown(it);
+    if (isHidden || !node.textContent.trim()) continue;
     const style = getComputedStyle(it);
     const ground = behind(it);
     const found = contrast(over(parsed(it instanceof SVGElement ? style.fill : style.color), ground), ground);
@@ -54,7 +57,8 @@
     const name = it.getAttribute('aria-label') || it.textContent.trim() || it.labels?.[0]?.textContent.trim();
     if (!name) faults.push(`${it.tagName} ${it.id} has no name`);
     if (it.tabIndex < 0) faults.push(`${it.tagName} ${it.id} isn't reached by keys`);
-    if (it.getBoundingClientRect().height < 24) faults.push(`${it.tagName} ${name} is ${it.getBoundingClientRect().height} high`);
+    const {height} = it.getBoundingClientRect();
+    if (height < 24) faults.push(`${it.tagName} ${name} is ${height} high`);
   }
   const levels = [...document.querySelectorAll('main h1, main h2')].filter(isShown).map((it) => it.tagName);
   if (levels[0] !== 'H1' || levels.filter((it) => it === 'H1').length !== 1) faults.push(`headings: ${levels}`);

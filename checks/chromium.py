@@ -23,20 +23,21 @@ class Browser:
     def __init__(self, path):
         self.folder = tempfile.mkdtemp(prefix="flash-browser-")
         there, back = os.pipe(), os.pipe()
-        words = [path, "--headless=new", "--remote-debugging-pipe", f"--user-data-dir={self.folder}", "--hide-scrollbars"]
-        words += ["--force-color-profile=srgb", "--disable-gpu", "--no-first-run", "--disable-extensions", "--mute-audio"]
-        words += ["--disable-background-networking", "--disable-component-update", "--host-resolver-rules=MAP * ~NOTFOUND"]
+        words = [path, "--headless=new", "--remote-debugging-pipe", f"--user-data-dir={self.folder}"]
+        words += ["--force-color-profile=srgb", "--hide-scrollbars", "--disable-gpu", "--no-first-run"]
+        words += ["--disable-extensions", "--disable-background-networking", "--disable-component-update"]
+        words += ["--mute-audio", "--host-resolver-rules=MAP * ~NOTFOUND"]
         words += ["--no-sandbox"] * (os.getuid() == 0)
 
         def fixed():
-            # The browser reads from 3 and writes to 4. Copies come first, since one pipe's number may be the other's place.
+            # The browser reads from 3 and writes to 4. Copies come first: one pipe's number may be the other's place.
             read, write = os.dup(there[0]), os.dup(back[1])
             high = [os.dup2(it, to) for it, to in ((read, 60), (write, 61))]
             os.dup2(high[0], 3)
             os.dup2(high[1], 4)
 
-        self.process = subprocess.Popen(words, preexec_fn=fixed, close_fds=False, start_new_session=True,
-                                        stdin=subprocess.DEVNULL, stdout=subprocess.DEVNULL, stderr=subprocess.DEVNULL)
+        silent = {it: subprocess.DEVNULL for it in ("stdin", "stdout", "stderr")}
+        self.process = subprocess.Popen(words, preexec_fn=fixed, close_fds=False, start_new_session=True, **silent)
         os.close(there[0])
         os.close(back[1])
         self.to, self.come = there[1], back[0]
@@ -61,7 +62,7 @@ class Browser:
         return json.loads(first)
 
     def call(self, method, **params):
-        """Calls a method of the browser's protocol, and returns what it gives. What is told meanwhile is kept in `events`."""
+        """Calls a method of the browser's protocol and returns what it gives. What is told meanwhile stays in `events`."""
         self.count += 1
         text = {"id": self.count, "method": method, "params": params}
         if getattr(self, "session", None):
@@ -79,13 +80,14 @@ class Browser:
         """Returns the value of an expression of the page; a promise is waited for."""
         got = self.call("Runtime.evaluate", expression=expression, awaitPromise=True, returnByValue=True)
         if "exceptionDetails" in got:
-            raise RuntimeError(got["exceptionDetails"].get("exception", {}).get("description", str(got["exceptionDetails"])))
+            raise RuntimeError(got["exceptionDetails"].get("exception", {}).get("description", expression))
         return got["result"].get("value")
 
     def look(self, width, height, is_dark=False):
         """Sets the window's size and its colours."""
         self.call("Emulation.setDeviceMetricsOverride", width=width, height=height, deviceScaleFactor=1, mobile=False)
-        self.call("Emulation.setEmulatedMedia", features=[{"name": "prefers-color-scheme", "value": "dark" if is_dark else "light"}])
+        colours = {"name": "prefers-color-scheme", "value": "dark" if is_dark else "light"}
+        self.call("Emulation.setEmulatedMedia", features=[colours])
 
     def open(self, url):
         """Opens an address, and waits until it is loaded."""
@@ -117,7 +119,8 @@ class Browser:
     def picture(self, x, y, width, height):
         """Returns a part of the page as PNG bytes."""
         clip = {"x": x, "y": y, "width": width, "height": height, "scale": 1}
-        return base64.b64decode(self.call("Page.captureScreenshot", format="png", clip=clip, captureBeyondViewport=True)["data"])
+        got = self.call("Page.captureScreenshot", format="png", clip=clip, captureBeyondViewport=True)
+        return base64.b64decode(got["data"])
 
     def close(self):
         try:
@@ -153,7 +156,7 @@ def unfilter(kind, row, above, step):
 
 
 def pixels(png):
-    """Returns the width, the height, and the rows of a PNG with eight bits a channel, each a list of (r, g, b) bytes joined."""
+    """Returns the width, the height, and the rows of a PNG with eight bits a channel: three bytes for each pixel."""
     at, data, head = 8, b"", None
     while at < len(png):
         size, kind = struct.unpack(">I4s", png[at:at + 8])

@@ -1,7 +1,7 @@
 // Pictures of the page: the page itself in a frame without scripts, its animations held at the time of a frame.
 //
-// Nothing in a picture ever moves by itself. The page is first loaded with nothing of it laid out, so that no animation
-// begins; each element's animations are then paused by its own style, and only then it is shown.
+// Nothing in a picture ever moves by itself. The page is first loaded with nothing of it laid out, so that no
+// animation begins; each element's animations are then paused by its own style, and only then it is shown.
 
 // The page's text with a style in it by which nothing is laid out.
 function heldText(bytes) {
@@ -15,7 +15,7 @@ function heldText(bytes) {
 
 const wordsOf = (list) => list.split(',').map((it) => it.trim());
 
-// Pauses an element's animations, and returns which of its animations the page itself has paused, by their places in its list.
+// Pauses an element's animations, and returns its list of names with which of them the page itself has paused.
 function pauseOf(element) {
   const style = element.ownerDocument.defaultView.getComputedStyle(element);
   const [names, states] = [wordsOf(style.animationName), wordsOf(style.animationPlayState)];
@@ -99,13 +99,14 @@ function pointer(report, box) {
 // So many outlines are told apart; more are tinted.
 const MOST_OUTLINES = 100;
 
-// Outlines over a picture: dark ones with a light rim, which show on every colour. The first class tells what they are.
+// Outlines over a picture: dark ones with a light rim, which show on every colour. The name tells what they are.
 function outlinesOf(report, groups) {
   const {width, height} = report.words;
   const paths = groups.flatMap(([name, boxes]) => {
     if (boxes.length > MOST_OUTLINES) return [svg('path', {class: 'tinted', d: pathOf(boxes)})];
     const outline = pathOf(boxes) + (name === 'chosen' ? pointer(report, boxes[0]) : '');
-    return ['rim', 'line'].map((kind) => svg('path', {class: `${name} ${kind}`, d: outline, 'vector-effect': 'non-scaling-stroke'}));
+    return ['rim', 'line'].map((kind) =>
+      svg('path', {class: `${name} ${kind}`, d: outline, 'vector-effect': 'non-scaling-stroke'}));
   });
   return svg('svg', {class: 'outlines', viewBox: `0 0 ${width} ${height}`, 'aria-hidden': 'true'}, ...paths);
 }

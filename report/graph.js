@@ -15,10 +15,14 @@ function scaleOf(words, start, width, height) {
 
 const label = (x, y, text, more = {}) => svg('text', {x, y, ...more}, document.createTextNode(text));
 
+// A line across the graph at a share.
+const across = (scale, name, share) =>
+  svg('line', {class: name, x1: MARGIN.left, x2: scale.width - MARGIN.right, y1: scale.y(share), y2: scale.y(share)});
+
 // The lines of both scales, with their numbers.
 function grid(scale, words, start) {
   const rows = [0, 0.2, 0.4, 0.6, 0.8, 1].flatMap((share) => [
-    svg('line', {class: 'grid', x1: MARGIN.left, x2: scale.width - MARGIN.right, y1: scale.y(share), y2: scale.y(share)}),
+    across(scale, 'grid', share),
     label(MARGIN.left - 8, scale.y(share) + 4, share.toFixed(1), {'text-anchor': 'end'}),
   ]);
   const quarters = scale.width < 480 ? [0, 2, 4] : [0, 1, 2, 3, 4];
@@ -26,7 +30,7 @@ function grid(scale, words, start) {
     const frame = start + windowOf(words) * quarter / 4;
     const [anchor, time] = [['start', 'middle', 'middle', 'middle', 'end'][quarter], secondsOf(words, frame)];
     return [
-      svg('line', {class: 'grid', x1: scale.x(frame), x2: scale.x(frame), y1: MARGIN.top, y2: scale.height - MARGIN.bottom}),
+      svg('line', {class: 'grid', x1: scale.x(frame), x2: scale.x(frame), y1: MARGIN.top, y2: scale.y(0)}),
       label(scale.x(frame), scale.height - MARGIN.bottom + 18, seconds(time), {'text-anchor': anchor}),
     ];
   });
@@ -58,22 +62,22 @@ function changeLines(scale, part, values) {
 function dots(scale, part, values) {
   return part.tints.flatMap((tint, at) => {
     const x = scale.x(part.frames[at]);
-    const bar = svg('line', {class: 'bounds', x1: x, x2: x, y1: scale.y(values[at].low), y2: scale.y(values[at].high)});
-    const dot = svg('circle', {class: 'dot', cx: x, cy: scale.y(values[at].middle), r: 6, fill: `#${tint.text.slice(0, 6)}`});
-    return values[at].low === values[at].high ? [dot] : [bar, dot];
+    const {low, high, middle} = values[at];
+    const bar = svg('line', {class: 'bounds', x1: x, x2: x, y1: scale.y(low), y2: scale.y(high)});
+    const dot = svg('circle', {class: 'dot', cx: x, cy: scale.y(middle), r: 6, fill: `#${tint.text.slice(0, 6)}`});
+    return low === high ? [dot] : [bar, dot];
   });
 }
 
 // For a red part: how far apart each two neighbours are, as bars from below, with the line that they pass.
 function distances(scale, part) {
-  const limit = svg('line', {class: 'limit', x1: MARGIN.left, x2: scale.width - MARGIN.right, y1: scale.y(0.2), y2: scale.y(0.2)});
   const bars = changesOf(part).map((change, at) => {
     const [from, to] = [scale.x(part.frames[at]), scale.x(part.frames[at + 1])];
     const top = scale.y(Math.min(change.by, 1));
     const width = Math.max(to - from - 4, 2);
     return svg('rect', {class: 'distance', x: from + 2, y: top, width, height: scale.y(0) - top});
   });
-  return [...bars, limit];
+  return [...bars, across(scale, 'limit', 0.2)];
 }
 
 // Draws the graph of a part as wide as its place.
@@ -83,9 +87,9 @@ function drawGraph(report, part) {
   const scale = scaleOf(words, witness.start, Math.max(place.clientWidth, 280), 280);
   const isRed = part.kind === 'red';
   const values = part.tints.map((tint) => rangeOf(tint, isRed ? redShareOf : luminanceOf));
-  const limit = svg('line', {class: 'limit', x1: MARGIN.left, x2: scale.width - MARGIN.right, y1: scale.y(0.8), y2: scale.y(0.8)});
-  const drawn = svg('svg', {viewBox: `0 0 ${scale.width} ${scale.height}`, role: 'img', 'aria-labelledby': 'graph-text'},
-    ...grid(scale, words, witness.start), ...(isRed ? distances(scale, part) : []), limit,
+  const head = {viewBox: `0 0 ${scale.width} ${scale.height}`, role: 'img', 'aria-labelledby': 'graph-text'};
+  const drawn = svg('svg', head, ...grid(scale, words, witness.start),
+    ...(isRed ? distances(scale, part) : []), across(scale, 'limit', 0.8),
     ...changeLines(scale, part, values), ...dots(scale, part, values));
   place.replaceChildren(drawn);
 }
@@ -93,10 +97,11 @@ function drawGraph(report, part) {
 // What the graph shows, in words.
 function graphText(part) {
   if (part.kind === 'red') {
-    return 'The share of red in the light of the part at its nine frames (dots; from 0.8 on, the dashed line, it is a saturated red), with the '
-      + 'changes into red (▲) and out of red (▼); the bars are their distances in the CIE 1976 diagram (u′v′), which are more than 0.2, the lower '
-      + 'dashed line. Between the nine frames nothing is stated.';
+    return 'The share of red in the light of the part at its nine frames (dots; from 0.8 on, the dashed line, it is a '
+      + 'saturated red), with the changes into red (▲) and out of red (▼); the bars are their distances in the CIE '
+      + '1976 diagram (u′v′), which are more than 0.2, the lower dashed line. Between the nine frames nothing is stated.';
   }
-  return 'The relative luminance of the part at its nine frames (dots), with the rises (▲) and falls (▼) between them; each is by 0.1 or more, '
+  return 'The relative luminance of the part at its nine frames (dots), with the rises (▲) and falls (▼) between '
+    + 'them; each is by 0.1 or more, '
     + 'and its darker end is below 0.8, the dashed line. Between the nine frames nothing is stated.';
 }

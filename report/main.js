@@ -1,17 +1,16 @@
 // Puts the report together.
 
 const put = (id, text) => { document.getElementById(id).textContent = text; };
+const made = (tag, text) => Object.assign(document.createElement(tag), {textContent: text});
 
 // Pairs of a term and what is said of it.
 function putPairs(id, pairs) {
-  const parts = pairs.flatMap(([term, text]) => [
-    Object.assign(document.createElement('dt'), {textContent: term}), Object.assign(document.createElement('dd'), {textContent: text}),
-  ]);
+  const parts = pairs.flatMap(([term, text]) => [made('dt', term), made('dd', text)]);
   document.getElementById(id).replaceChildren(...parts);
 }
 
 function putParagraphs(id, texts) {
-  document.getElementById(id).replaceChildren(...texts.map((text) => Object.assign(document.createElement('p'), {textContent: text})));
+  document.getElementById(id).replaceChildren(...texts.map((text) => made('p', text)));
 }
 
 // The verdict, in a sentence, and what it rests on.
@@ -19,14 +18,16 @@ function showVerdict(report) {
   const {words, answer} = report;
   const said = say(answer, words);
   const title = document.getElementById('verdict-title');
-  const mark = Object.assign(document.createElement('span'), {className: 'mark', textContent: said.mark});
-  document.documentElement.dataset.verdict = {pass: 'pass', fail: 'fail', frames: 'undecided', work: 'undecided', enclosure: 'undecided'}[answer.kind] || 'refused';
+  const mark = made('span', said.mark);
+  mark.className = 'mark';
+  document.documentElement.dataset.verdict = said.mark.toLowerCase();
   title.replaceChildren(mark, document.createTextNode(` ${said.title}`));
   document.title = `${said.mark}: ${words.page} - flash report`;
   put('sentence', said.sentence);
   putPairs('facts', [...said.facts, ['Exit status', String(words.status)]]);
   putPairs('judged', [
-    ['Page', words.page], ['Viewport', `${number(words.width)} by ${number(words.height)} pixels`], ['Rate', `${words.rate} frames per second`],
+    ['Page', words.page], ['Viewport', `${number(words.width)} by ${number(words.height)} `
+      + `pixels`], ['Rate', `${words.rate} frames per second`],
   ]);
   put('why-title', said.heading);
   putParagraphs('why-text', said.why);
@@ -46,7 +47,8 @@ function showVerify(report) {
   const file = quoted(`${words.page.replace(/^.*\//, '').replace(/\.html?$/i, '')}.witness`);
   const verify = `${called} verify ${page} ${file} ${words.size} ${words.rate}`;
   put('verify-text', isFail
-    ? 'The first command judges the page again and keeps the witness; the second tests the witness against the page, by code that shares with the '
+    ? 'The first command judges the page again and keeps the witness; the second tests the witness against the '
+      + 'page, by code that shares with the '
       + 'first one only how a pixel is painted and what a change is. It prints accepted.'
     : 'This judges the page again, and prints the line that this report was made from.');
   put('copy', isFail ? 'Copy the commands' : 'Copy the command');
@@ -74,13 +76,16 @@ function showVerify(report) {
 function showPage(report) {
   const {answer, words} = report;
   if (answer.kind === 'fail') {
-    const text = `The page at frame ${number(answer.witness.start)}, where the second begins. The bold outline is the 341 by 256 rectangle, `
-      + 'as far as it lies in the viewport; the thin ones, or what is tinted where there are many, are the parts that flash, and the dashed one is the part that is chosen.';
+    const text = `The page at frame ${number(answer.witness.start)}, where the second begins. The bold outline is `
+      + `the 341 by 256 rectangle, `
+      + 'as far as it lies in the viewport; the thin ones, or what is tinted where there are many, are the parts '
+      + 'that flash, and the dashed one is the part that is chosen.';
     showScene(report, answer.witness.start, answer.witness, answer.witness.parts, text);
     listenPlay(report);
     showParts(report);
   } else if (answer.kind === 'enclosure') {
-    showScene(report, answer.start, answer, [], `The page at frame ${number(answer.start)}, ${seconds(secondsOf(words, answer.start))}, with the rectangle.`);
+    showScene(report, answer.start, answer, [], `The page at frame ${number(answer.start)}, `
+      + `${seconds(secondsOf(words, answer.start))}, with the rectangle.`);
   } else {
     put('where-title', 'The page');
     showScene(report, 0, null, [], 'The page at its first frame. Nothing in this picture moves.');

@@ -5,10 +5,9 @@ const ROWS = 20;
 const kindText = (part) => (part.kind === 'red' ? 'red' : 'general');
 
 function cell(text, className) {
-  const made = document.createElement('td');
-  made.textContent = text;
-  if (className) made.className = className;
-  return made;
+  const it = made('td', text);
+  if (className) it.className = className;
+  return it;
 }
 
 // A row of the table, which chooses its part.
@@ -35,7 +34,8 @@ function showRows(report, from) {
   report.from = Math.max(0, Math.min(from, last));
   const shown = ordered.slice(report.from, report.from + ROWS);
   document.querySelector('#list tbody').replaceChildren(...shown.map((part) => partRow(report, part)));
-  document.getElementById('range').textContent = `${number(report.from + 1)} to ${number(report.from + shown.length)} of ${number(ordered.length)}`;
+  document.getElementById('range').textContent = `${number(report.from + 1)} to `
+    + `${number(report.from + shown.length)} of ${number(ordered.length)}`;
   const [isFirst, isLast] = [report.from === 0, report.from === last];
   for (const [id, isAtEnd] of [['first', isFirst], ['back', isFirst], ['next', isLast], ['last', isLast]]) {
     document.getElementById(id).disabled = isAtEnd;
@@ -45,10 +45,11 @@ function showRows(report, from) {
 // The buttons below the table, where it doesn't show all at once.
 function listenRows(report) {
   const {ordered} = report.witness;
-  const steps = {first: () => 0, back: () => report.from - ROWS, next: () => report.from + ROWS, last: () => ordered.length};
-  for (const [id, to] of Object.entries(steps)) {
-    document.getElementById(id).addEventListener('click', () => showRows(report, to()));
-  }
+  const on = (id, to) => document.getElementById(id).addEventListener('click', () => showRows(report, to()));
+  on('first', () => 0);
+  on('back', () => report.from - ROWS);
+  on('next', () => report.from + ROWS);
+  on('last', () => ordered.length);
   const go = document.getElementById('go');
   go.max = ordered.length;
   go.addEventListener('change', () => {
@@ -63,18 +64,21 @@ function listenRows(report) {
 // The table of the nine frames of a part.
 function showTurns(report, part) {
   const isRed = part.kind === 'red';
-  const heads = ['Frame', 'Time', 'Colour', isRed ? 'Share of red' : 'Relative luminance', isRed ? 'Change, by u′v′' : 'Change'];
+  const heads = ['Frame', 'Time', 'Colour', isRed ? 'Share of red' : 'Relative luminance', isRed ? 'Change, by '
+    + 'u′v′' : 'Change'];
   const changes = changesOf(part);
   const head = document.createElement('tr');
-  head.append(...heads.map((text) => Object.assign(document.createElement('th'), {textContent: text, scope: 'col'})));
+  head.append(...heads.map((text) => Object.assign(made('th', text), {scope: 'col'})));
   const rows = part.tints.map((tint, turn) => {
     const row = document.createElement('tr');
     const range = rangeOf(tint, isRed ? redShareOf : luminanceOf);
-    const value = range.low === range.high ? range.low.toFixed(3) : `${range.low.toFixed(3)} to ${range.high.toFixed(3)}`;
+    const value = range.low === range.high ? range.low.toFixed(3) : `${range.low.toFixed(3)} to `
+      + `${range.high.toFixed(3)}`;
     const change = changes[turn - 1];
     const colour = cell('');
     colour.append(...swatch(tint));
-    row.append(cell(number(part.frames[turn])), cell(seconds(secondsOf(report.words, part.frames[turn]))), colour, cell(value),
+    const frame = part.frames[turn];
+    row.append(cell(number(frame)), cell(seconds(secondsOf(report.words, frame))), colour, cell(value),
       cell(change ? `${change.isUp ? '▲' : '▼'} ${change.word}, ${change.by.toFixed(3)}` : ''));
     return row;
   });
@@ -87,7 +91,8 @@ function choose(report, part) {
   report.chosen = part;
   document.getElementById('part-title').textContent = `Part ${number(part.index + 1)}`
     + (report.witness.parts.length > 1 ? ` of ${number(report.witness.parts.length)}` : '');
-  document.getElementById('part-text').textContent = `${part.width} by ${part.height} pixels at ${part.x}, ${part.y}, which is `
+  document.getElementById('part-text').textContent = `${part.width} by ${part.height} pixels at ${part.x}, `
+    + `${part.y}, which is `
     + `${percent(part.area)} of the rectangle. All of them have the same colour in each of the nine frames: `
     + `${part.kind === 'red' ? 'red' : 'general'} flashes.`;
   document.getElementById('graph-text').textContent = graphText(part);
@@ -102,7 +107,8 @@ function choose(report, part) {
 // The table, the first part of it chosen.
 function showParts(report) {
   const count = report.witness.parts.length;
-  document.getElementById('parts-text').textContent = `The witness has ${counted(count, 'part', 'parts')}. Choose one to see its graph and its pictures.`;
+  document.getElementById('parts-text').textContent = `The witness has ${counted(count, 'part', 'parts')}. Choose `
+    + `one to see its graph and its pictures.`;
   document.getElementById('parts').hidden = false;
   report.from = 0;
   listenRows(report);

@@ -1,5 +1,5 @@
-// The pictures: the page where it flashes, the nine frames of the chosen part, one of them in its full size, and, if its
-// reader asks for it, the bad second played slowly.
+// The pictures: the page where it flashes, the nine frames of the chosen part, one of them in its full size, and the
+// bad second played slowly, if its reader asks for it.
 
 // However slow the tenth of a frame rate is, no more frames than these are shown in a second: three pairs of changes.
 const MOST_FRAMES = 6;
@@ -64,7 +64,8 @@ function showStrip(report, part) {
   const made = part.frames.map((_, turn) => picture(report, part, turn));
   document.getElementById('strip').replaceChildren(...made.map((it) => it.item));
   report.loaded = Promise.all([report.scene.loaded, ...made.map((it) => it.loaded)]);
-  document.getElementById('pictures-text').textContent = `The page at the nine frames of part ${number(part.index + 1)}, which is outlined. `
+  document.getElementById('pictures-text').textContent = `The page at the nine frames of part `
+    + `${number(part.index + 1)}, which is outlined. `
     + 'Your browser paints them; each opens in its full size.';
   document.getElementById('pictures').hidden = false;
 }
@@ -137,7 +138,8 @@ function listenPlay(report) {
   const ask = document.getElementById('ask');
   const slower = Math.round(report.words.frames / report.words.per / slowRate(report.words));
   document.getElementById('play').hidden = false;
-  document.getElementById('ask-text').textContent = `The second is shown ${number(slower)} times slower than it is, in the one picture of the page. `
+  document.getElementById('ask-text').textContent = `The second is shown ${number(slower)} times slower than it is, `
+    + `in the one picture of the page. `
     + 'Even so, do not play it where flashing may harm you or somebody who sees your screen. Escape or Stop ends it.';
   const show = (isPlaying) => {
     report.playing = isPlaying;
