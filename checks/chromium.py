@@ -2,6 +2,7 @@
 import base64
 import json
 import os
+import select
 import shutil
 import struct
 import subprocess
@@ -52,7 +53,7 @@ class Browser:
         """Returns the next message."""
         until = time.time() + seconds
         while b"\0" not in self.rest:
-            if time.time() > until:
+            if not select.select([self.come], [], [], max(until - time.time(), 0))[0]:
                 raise TimeoutError("the browser doesn't answer")
             got = os.read(self.come, 1 << 20)
             if not got:
@@ -90,13 +91,12 @@ class Browser:
         self.call("Emulation.setEmulatedMedia", features=[colours])
 
     def open(self, url):
-        """Opens an address, and waits until it is loaded."""
+        """Opens an address, and waits until it is loaded: anew, also where another place of that page is open."""
+        if "#" in url:
+            self.open("about:blank")
         self.events = []
         self.call("Page.navigate", url=url)
-        until = time.time() + 60
         while not any(it.get("method") == "Page.loadEventFired" for it in self.events):
-            if time.time() > until:
-                raise TimeoutError(f"{url} isn't loaded")
             self.events.append(self.message())
 
     def faults(self):

@@ -1,7 +1,7 @@
 // The graph of the chosen part, over the second: its relative luminance, or for a red part its share of red and the
 // distance of each change. Only the nine frames of the witness are drawn; it states nothing between them.
 
-const MARGIN = {left: 40, right: 14, top: 14, bottom: 40};
+const MARGIN = {left: 46, right: 14, top: 14, bottom: 40};
 
 // Where a frame and a share lie in a graph of this size.
 function scaleOf(words, start, width, height) {
@@ -23,7 +23,7 @@ const across = (scale, name, share) =>
 function grid(scale, words, start) {
   const rows = [0, 0.2, 0.4, 0.6, 0.8, 1].flatMap((share) => [
     across(scale, 'grid', share),
-    label(MARGIN.left - 8, scale.y(share) + 4, share.toFixed(1), {'text-anchor': 'end'}),
+    label(MARGIN.left - 12, scale.y(share) + 4, share.toFixed(1), {'text-anchor': 'end'}),
   ]);
   const quarters = scale.width < 480 ? [0, 2, 4] : [0, 1, 2, 3, 4];
   const columns = quarters.flatMap((quarter) => {

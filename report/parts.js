@@ -92,8 +92,7 @@ function choose(report, part) {
   document.getElementById('part-title').textContent = `Part ${number(part.index + 1)}`
     + (report.witness.parts.length > 1 ? ` of ${number(report.witness.parts.length)}` : '');
   document.getElementById('part-text').textContent = `${part.width} by ${part.height} pixels at ${part.x}, `
-    + `${part.y}, which is `
-    + `${percent(part.area)} of the rectangle. All of them have the same colour in each of the nine frames: `
+    + `${part.y}, which is ${percent(part.area)} of the rectangle. All of them have the same colour in each of the nine frames: `
     + `${part.kind === 'red' ? 'red' : 'general'} flashes.`;
   document.getElementById('graph-text').textContent = graphText(part);
   document.getElementById('part').hidden = false;
@@ -107,8 +106,8 @@ function choose(report, part) {
 // The table, the first part of it chosen.
 function showParts(report) {
   const count = report.witness.parts.length;
-  document.getElementById('parts-text').textContent = `The witness has ${counted(count, 'part', 'parts')}. Choose `
-    + `one to see its graph and its pictures.`;
+  document.getElementById('parts-text').textContent = `The witness has ${counted(count, 'part', 'parts')}; the shares are of `
+    + 'the rectangle’s 87,296 pixels. Choose one to see its graph and its pictures.';
   document.getElementById('parts').hidden = false;
   report.from = 0;
   listenRows(report);

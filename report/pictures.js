@@ -82,8 +82,11 @@ function showLarge(report) {
     if (dialog.open) dialog.close();
     return;
   }
+  const tint = part.tints[Number(found[2])];
   const title = `Frame ${number(frame)}, ${seconds(secondsOf(report.words, frame))}`;
   document.getElementById('large-title').textContent = title;
+  const where = `Part ${number(part.index + 1)} is ${part.width} by ${part.height} pixels at ${part.x}, ${part.y}: `;
+  document.getElementById('large-text').replaceChildren(where, ...swatch(tint));
   const box = document.createElement('div');
   box.className = 'frame-box full';
   box.style.width = `${report.words.width}px`;
@@ -91,6 +94,7 @@ function showLarge(report) {
   place.append(box);
   report.large = new Picture(report, box, frame);
   if (!dialog.open) dialog.showModal();
+  place.scrollTo(part.x + (part.width - place.clientWidth) / 2, part.y + (part.height - place.clientHeight) / 2);
 }
 
 // The large picture opens by its address, so that a step back closes it.

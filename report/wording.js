@@ -3,13 +3,13 @@
 const grouped = new Intl.NumberFormat('en-GB');
 const number = (it) => grouped.format(it);
 const counted = (count, one, many) => `${number(count)} ${count === 1 ? one : many}`;
-const seconds = (it) => `${new Intl.NumberFormat('en-GB', {maximumFractionDigits: 3}).format(it)} s`;
+const seconds = (it) => `${new Intl.NumberFormat('en-GB', {maximumFractionDigits: 3}).format(it)}\u00a0s`;
 
 // A share of the rectangle in percent, never rounded to the quarter that it isn't.
 function percent(area) {
   const share = 100 * area / (RECTANGLE.width * RECTANGLE.height);
   const told = share < 0.1 ? 'under 0.1' : (Math.floor(share * 10) / 10).toString();
-  return told === '25' && area > ALLOWED ? 'just over 25 %' : `${told} %`;
+  return told === '25' && area > ALLOWED ? 'just over 25\u00a0%' : `${told}\u00a0%`;
 }
 
 // The kinds of flash in a witness, as WCAG names them.
@@ -27,7 +27,7 @@ function whenOf(words, start) {
 }
 
 const FLASHES = {
-  general: 'A general flash is a pair of opposing changes in relative luminance of 10 % or more of the maximum, '
+  general: 'A general flash is a pair of opposing changes in relative luminance of 10\u00a0% or more of the maximum, '
     + 'where the relative luminance of the darker image is below 0.80.',
   red: 'A red flash is a pair of opposing transitions involving a saturated red: to or from a colour with four '
     + 'fifths '
@@ -43,13 +43,13 @@ function sayFail(answer, words) {
     sentence: `The page contains something that flashes more than three times in a one-second period: `
       + `${kindsOf(witness)}, `
       + `${whenOf(words, witness.start)}, in ${spot}, over ${number(witness.area)} of its pixels, which is `
-      + `${percent(witness.area)} of it, where no more than 25 % (${number(ALLOWED)} pixels) may flash.`,
+      + `${percent(witness.area)} of it, where no more than 25\u00a0% (${number(ALLOWED)} pixels) may flash.`,
     facts: [
       ['Second', `${whenOf(words, witness.start)}`],
       ['Rectangle', `341 by 256 pixels at ${witness.x}, ${witness.y}`],
       ['Flashing', `${counted(witness.area, 'pixel', 'pixels')} of ${number(RECTANGLE.width * RECTANGLE.height)}, `
         + `${percent(witness.area)}`],
-      ['Allowed', `${number(ALLOWED)} pixels, 25 %`],
+      ['Allowed', `${number(ALLOWED)} pixels, 25\u00a0%`],
       ['Made of', `${counted(witness.parts.length, 'part', 'parts')}, ${kindsOf(witness)}`],
     ],
     heading: 'What flashes, and what to change',
