@@ -63,7 +63,7 @@ class Browser:
         return json.loads(first)
 
     def call(self, method, **params):
-        """Calls a method of the browser's protocol and returns what it gives. What is told meanwhile stays in `events`."""
+        """Calls a method of the protocol, and returns what it gives. What is told meanwhile stays in `events`."""
         self.count += 1
         text = {"id": self.count, "method": method, "params": params}
         if getattr(self, "session", None):

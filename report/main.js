@@ -48,8 +48,8 @@ function showVerify(report) {
   const verify = `${called} verify ${page} ${file} ${words.size} ${words.rate}`;
   put('verify-text', isFail
     ? 'The first command judges the page again and keeps the witness; the second tests the witness against the '
-      + 'page, by code that shares with the '
-      + 'first one only how a pixel is painted and what a change is. It prints accepted.'
+      + 'page, by code that shares with the first one only the states of the boxes, the painting of a pixel, and what '
+      + 'a change is. It prints accepted.'
     : 'This judges the page again, and prints the line that this report was made from.');
   put('copy', isFail ? 'Copy the commands' : 'Copy the command');
   put('command', isFail ? `${check} >${file}\n${verify}` : check);

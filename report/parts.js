@@ -89,12 +89,11 @@ function showTurns(report, part) {
 // Chooses a part: its graph, its frames and its pictures are shown.
 function choose(report, part) {
   report.chosen = part;
-  document.getElementById('part-title').textContent = `Part ${number(part.index + 1)}`
-    + (report.witness.parts.length > 1 ? ` of ${number(report.witness.parts.length)}` : '');
-  document.getElementById('part-text').textContent = `${part.width} by ${part.height} pixels at ${part.x}, `
-    + `${part.y}, which is ${percent(part.area)} of the rectangle. All of them have the same colour in each of the nine frames: `
-    + `${part.kind === 'red' ? 'red' : 'general'} flashes.`;
-  document.getElementById('graph-text').textContent = graphText(part);
+  const {length} = report.witness.parts;
+  put('part-title', `Part ${number(part.index + 1)}${length > 1 ? ` of ${number(length)}` : ''}`);
+  put('part-text', `${part.width} by ${part.height} pixels at ${part.x}, ${part.y}, which is ${percent(part.area)} of `
+    + `the rectangle. All of them have the same colour in each of the nine frames: ${kindText(part)} flashes.`);
+  put('graph-text', graphText(part));
   document.getElementById('part').hidden = false;
   drawGraph(report, part);
   showTurns(report, part);
@@ -106,8 +105,8 @@ function choose(report, part) {
 // The table, the first part of it chosen.
 function showParts(report) {
   const count = report.witness.parts.length;
-  document.getElementById('parts-text').textContent = `The witness has ${counted(count, 'part', 'parts')}; the shares are of `
-    + 'the rectangle’s 87,296 pixels. Choose one to see its graph and its pictures.';
+  put('parts-text', `The witness has ${counted(count, 'part', 'parts')}; the shares are of `
+    + 'the rectangle’s 87,296 pixels. Choose one to see its graph and its pictures.');
   document.getElementById('parts').hidden = false;
   report.from = 0;
   listenRows(report);
