@@ -97,12 +97,12 @@ function drawGraph(report, part) {
 // What the graph shows, in words.
 function graphText(part) {
   if (part.kind === 'red') {
-    return 'The share of red in the light of the part at its nine frames (dots; from 0.8 on, the dashed line, it is a '
-      + 'saturated red), with the changes into red (▲) and out of red (▼); the bars are their distances in the CIE '
-      + '1976 diagram (u′v′), which are more than 0.2, the lower dashed line. Between the nine frames nothing is '
-      + 'stated.';
+    return 'The share of red in the light of the part at its nine frames (dots; from 0.8 on, the dashed line, it is '
+      + 'a saturated red), with the changes into red (▲) and out of red (▼); the bars are their distances in the '
+      + 'CIE 1976 diagram (u′v′), which are more than 0.2, the lower dashed line. Between the nine frames nothing '
+      + 'is stated.';
   }
   return 'The relative luminance of the part at its nine frames (dots), with the rises (▲) and falls (▼) between '
-    + 'them; each is by 0.1 or more, '
-    + 'and its darker end is below 0.8, the dashed line. Between the nine frames nothing is stated.';
+    + 'them; each is by 0.1 or more, and its darker end is below 0.8, the dashed line. Between the nine frames '
+    + 'nothing is stated.';
 }

@@ -26,8 +26,9 @@ function showVerdict(report) {
   put('sentence', said.sentence);
   putPairs('facts', [...said.facts, ['Exit status', String(words.status)]]);
   putPairs('judged', [
-    ['Page', words.page], ['Viewport', `${number(words.width)} by ${number(words.height)} `
-      + `pixels`], ['Rate', `${words.rate} frames per second`],
+    ['Page', words.page],
+    ['Viewport', `${number(words.width)} by ${number(words.height)} pixels`],
+    ['Rate', `${words.rate} frames per second`],
   ]);
   put('why-title', said.heading);
   putParagraphs('why-text', said.why);
@@ -48,8 +49,8 @@ function showVerify(report) {
   const verify = `${called} verify ${page} ${file} ${words.size} ${words.rate}`;
   put('verify-text', isFail
     ? 'The first command judges the page again and keeps the witness; the second tests the witness against the '
-      + 'page, by code that shares with the first one only the states of the boxes, the painting of a pixel, and what '
-      + 'a change is. It prints accepted.'
+      + 'page, by code that shares with the first one only the states of the boxes, the painting of a pixel, and '
+      + 'what a change is. It prints accepted.'
     : 'This judges the page again, and prints the line that this report was made from.');
   put('copy', isFail ? 'Copy the commands' : 'Copy the command');
   put('command', isFail ? `${check} >${file}\n${verify}` : check);
@@ -77,9 +78,8 @@ function showPage(report) {
   const {answer, words} = report;
   if (answer.kind === 'fail') {
     const text = `The page at frame ${number(answer.witness.start)}, where the second begins. The bold outline is `
-      + `the 341 by 256 rectangle, `
-      + 'as far as it lies in the viewport; the thin ones, or what is tinted where there are many, are the parts '
-      + 'that flash, and the dashed one is the part that is chosen.';
+      + 'the 341 by 256 rectangle, as far as it lies in the viewport; the thin ones, or what is tinted where there '
+      + 'are many, are the parts that flash, and the dashed one is the part that is chosen.';
     showScene(report, answer.witness.start, answer.witness, answer.witness.parts, text);
     listenPlay(report);
     showParts(report);

@@ -64,16 +64,15 @@ function listenRows(report) {
 // The table of the nine frames of a part.
 function showTurns(report, part) {
   const isRed = part.kind === 'red';
-  const heads = ['Frame', 'Time', 'Colour', isRed ? 'Share of red' : 'Relative luminance', isRed ? 'Change, by '
-    + 'u′v′' : 'Change'];
+  const own = isRed ? ['Share of red', 'Change, by u′v′'] : ['Relative luminance', 'Change'];
   const changes = changesOf(part);
   const head = document.createElement('tr');
-  head.append(...heads.map((text) => Object.assign(made('th', text), {scope: 'col'})));
+  head.append(...['Frame', 'Time', 'Colour', ...own].map((text) => Object.assign(made('th', text), {scope: 'col'})));
   const rows = part.tints.map((tint, turn) => {
     const row = document.createElement('tr');
     const range = rangeOf(tint, isRed ? redShareOf : luminanceOf);
-    const value = range.low === range.high ? range.low.toFixed(3) : `${range.low.toFixed(3)} to `
-      + `${range.high.toFixed(3)}`;
+    const [low, high] = [range.low.toFixed(3), range.high.toFixed(3)];
+    const value = range.low === range.high ? low : `${low} to ${high}`;
     const change = changes[turn - 1];
     const colour = cell('');
     colour.append(...swatch(tint));
@@ -91,8 +90,8 @@ function choose(report, part) {
   report.chosen = part;
   const {length} = report.witness.parts;
   put('part-title', `Part ${number(part.index + 1)}${length > 1 ? ` of ${number(length)}` : ''}`);
-  put('part-text', `${part.width} by ${part.height} pixels at ${part.x}, ${part.y}, which is ${percent(part.area)} of `
-    + `the rectangle. All of them have the same colour in each of the nine frames: ${kindText(part)} flashes.`);
+  put('part-text', `${part.width} by ${part.height} pixels at ${part.x}, ${part.y}, which is ${percent(part.area)} `
+    + `of the rectangle. All of them have the same colour in each of the nine frames: ${kindText(part)} flashes.`);
   put('graph-text', graphText(part));
   document.getElementById('part').hidden = false;
   drawGraph(report, part);

@@ -56,8 +56,8 @@ function markedLine(bytes, at, number_) {
   const last = atCharacter(bytes, Math.min(to, at + NEAR), 1);
   const next = at < bytes.length ? Math.min(atCharacter(bytes, at + 1, 1), Math.max(to, at + 1)) : at;
   const mark = document.createElement('mark');
-  mark.textContent = at >= bytes.length ? '⟨end of the file⟩' : at >= to ? '⟨end of the '
-    + 'line⟩' : shown(bytes, at, next);
+  const end = at >= bytes.length ? '⟨end of the file⟩' : '⟨end of the line⟩';
+  mark.textContent = at >= to ? end : shown(bytes, at, next);
   const before = (first > from ? '… ' : '') + shown(bytes, first, at);
   const after = at >= to ? '' : shown(bytes, next, last) + (last < to ? ' …' : '');
   return line(bytes, from, to, number_, [before, mark, after]);
@@ -89,8 +89,7 @@ function showPlace(bytes, at) {
   const excerpt = document.getElementById('excerpt');
   const column = shown(bytes, own.from, at).length + 1;
   document.getElementById('place-text').textContent = `Byte ${number(at)} of the file, counted from 0: line `
-    + `${number(own_number)}, `
-    + `character ${number(column)}. It is marked.`;
+    + `${number(own_number)}, character ${number(column)}. It is marked.`;
   document.getElementById('place').hidden = false;
   excerpt.replaceChildren(...rows);
   const mark = excerpt.querySelector('mark');

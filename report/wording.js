@@ -27,11 +27,10 @@ function whenOf(words, start) {
 }
 
 const FLASHES = {
-  general: 'A general flash is a pair of opposing changes in relative luminance of 10\u00a0% or more of the maximum, '
-    + 'where the relative luminance of the darker image is below 0.80.',
+  general: 'A general flash is a pair of opposing changes in relative luminance of 10\u00a0% or more of the '
+    + 'maximum, where the relative luminance of the darker image is below 0.80.',
   red: 'A red flash is a pair of opposing transitions involving a saturated red: to or from a colour with four '
-    + 'fifths '
-    + 'or more of its light in red, over more than 0.2 in the CIE 1976 diagram.',
+    + 'fifths or more of its light in red, over more than 0.2 in the CIE 1976 diagram.',
 };
 
 function sayFail(answer, words) {
@@ -41,9 +40,9 @@ function sayFail(answer, words) {
     mark: 'Fail',
     title: 'Success criterion 2.3.1 is not met',
     sentence: `The page contains something that flashes more than three times in a one-second period: `
-      + `${kindsOf(witness)}, `
-      + `${whenOf(words, witness.start)}, in ${spot}, over ${number(witness.area)} of its pixels, which is `
-      + `${percent(witness.area)} of it, where no more than 25\u00a0% (${number(ALLOWED)} pixels) may flash.`,
+      + `${kindsOf(witness)}, ${whenOf(words, witness.start)}, in ${spot}, over ${number(witness.area)} of its `
+      + `pixels, which is ${percent(witness.area)} of it, where no more than 25\u00a0% (${number(ALLOWED)} pixels) `
+      + `may flash.`,
     facts: [
       ['Second', `${whenOf(words, witness.start)}`],
       ['Rectangle', `341 by 256 pixels at ${witness.x}, ${witness.y}`],
@@ -58,8 +57,7 @@ function sayFail(answer, words) {
       'More than three of them is four pairs: nine frames of the second, between which the colour changes eight '
         + 'times, to and fro.',
       'To mend it, let the changes be fewer than four pairs in any second (a slower animation, or one that ends '
-        + 'sooner), '
-        + 'make the area that changes smaller, or bring its colours closer together.',
+        + 'sooner), make the area that changes smaller, or bring its colours closer together.',
     ],
   };
 }
@@ -70,19 +68,16 @@ function sayPass(answer, words) {
     : `They are those that begin at frames 0 to ${number(answer.windows - 1)}, one at each frame (the last one at `
       + `${seconds(secondsOf(words, answer.windows - 1))}).`;
   const apart = ['The rhythms of the whole page meet too seldom to go through them all. So each region of the page '
-    + 'was looked at '
-    + 'for as long as its own boxes need to repeat, and the regions that may flash fill nowhere more than a quarter '
-    + 'of the rectangle.'];
+    + 'was looked at for as long as its own boxes need to repeat, and the regions that may flash fill nowhere more '
+    + 'than a quarter of the rectangle.'];
   const whole = ['This is enough for ever: by then every animation that ends has ended, and all that never end have '
-    + 'come '
-    + 'round together once. Each later second shows the same colours as one of these.'];
+    + 'come round together once. Each later second shows the same colours as one of these.'];
   return {
     mark: 'Pass',
     title: 'Success criterion 2.3.1 is met',
     sentence: 'The page contains nothing that flashes more than three times in any one-second period, over more '
-      + 'than a quarter of any '
-      + '341 by 256 pixel rectangle of its viewport: neither general flashes nor red flashes, from its first frame '
-      + 'on, for ever.',
+      + 'than a quarter of any 341 by 256 pixel rectangle of its viewport: neither general flashes nor red flashes, '
+      + 'from its first frame on, for ever.',
     facts: [['Looked at', `${windows} of one second`]],
     heading: 'Why that is enough for ever',
     why: [`To know it, ${windows} of one second had to be looked at. ${all}`, ...(answer.apart ? apart : whole)],
@@ -114,8 +109,8 @@ const sayWork = (answer, words) => sayUndecided(answer, words,
 
 const sayEnclosure = (answer, words) => sayUndecided(answer, words,
   `The page may or may not flash: in the second ${whenOf(words, answer.start)} its colours lie so close to a `
-    + `threshold, in the rectangle at `
-    + `${answer.x}, ${answer.y}, that the bounds of an easing curve do not tell on which side.`, [
+    + `threshold, in the rectangle at ${answer.x}, ${answer.y}, that the bounds of an easing curve do not tell on `
+    + `which side.`, [
     'No second of the page flashes for sure. The picture shows the page where this second begins, with the '
       + 'rectangle.',
     'Move the colours a little away from the threshold, so that they differ by clearly less than a tenth in '
@@ -148,11 +143,11 @@ const REFUSALS = {
     'Give it position: absolute, left, top, width, height and a background-color.'],
   body: ['The body has a property that only a box may have; its tag is marked below.',
     'Give the body a background colour and animations of it, and nothing else.'],
-  animations: ['An element has a list of more than eight animation names; its tag is marked below.', 'Use eight or '
-    + 'fewer.'],
+  animations: ['An element has a list of more than eight animation names; its tag is marked below.',
+    'Use eight or fewer.'],
   later: ['The page is one of those that are not judged yet.', 'See README: what is judged today.'],
-  other: ['The program printed something that this report does not know.', 'Is the report’s template of another '
-    + 'version?'],
+  other: ['The program printed something that this report does not know.',
+    'Is the report’s template of another version?'],
 };
 
 function sayRefusal(answer) {
@@ -171,14 +166,12 @@ const say = (answer, words) => (SAYINGS[answer.kind] || sayRefusal)(answer, word
 
 const LIMITS = [
   'This report proves nothing. Its numbers are those that the program flash printed, which is proved to print them '
-    + 'only where they hold; '
-    + 'a report can be changed by anybody who hands it on. Where it matters, run the program on the page yourself.',
+    + 'only where they hold; a report can be changed by anybody who hands it on. Where it matters, run the program '
+    + 'on the page yourself.',
   'The pictures are painted by your own browser from the bytes of the page, without its scripts and with its '
-    + 'animations held at '
-    + 'the frame. Where a browser paints other colours than the standards’ text says, they may differ from the '
-    + 'numbers.',
+    + 'animations held at the frame. Where a browser paints other colours than the standards’ text says, they may '
+    + 'differ from the numbers.',
   'What was judged is the page’s boxes and their colours, in one viewport at one frame rate, by the reading of CSS '
-    + 'and WCAG that flash '
-    + 'writes down in docs/MODEL.md. Text, images, video and scripts are not part of it, nor is what a display does '
-    + 'with the frames.',
+    + 'and WCAG that flash writes down in docs/MODEL.md. Text, images, video and scripts are not part of it, nor is '
+    + 'what a display does with the frames.',
 ];
