@@ -37,8 +37,13 @@ function showRows(report, from) {
   document.getElementById('range').textContent = `${number(report.from + 1)} to `
     + `${number(report.from + shown.length)} of ${number(ordered.length)}`;
   const [isFirst, isLast] = [report.from === 0, report.from === last];
-  for (const [id, isAtEnd] of [['first', isFirst], ['back', isFirst], ['next', isLast], ['last', isLast]]) {
+  const focused = document.activeElement.id;
+  for (const [id, isAtEnd, other] of [
+    ['first', isFirst, 'next'], ['back', isFirst, 'next'], ['next', isLast, 'back'], ['last', isLast, 'back'],
+  ]) {
     document.getElementById(id).disabled = isAtEnd;
+    // A button that can't be used any more hands its focus on.
+    if (isAtEnd && id === focused) document.getElementById(other).focus();
   }
 }
 
@@ -87,6 +92,7 @@ function showTurns(report, part) {
 
 // Chooses a part: its graph, its frames and its pictures are shown.
 function choose(report, part) {
+  const hadFocus = document.getElementById('list').contains(document.activeElement);
   report.chosen = part;
   const {length} = report.witness.parts;
   put('part-title', `Part ${number(part.index + 1)}${length > 1 ? ` of ${number(length)}` : ''}`);
@@ -99,6 +105,7 @@ function choose(report, part) {
   outlineScene(report, report.witness, part);
   showStrip(report, part);
   showRows(report, report.from);
+  if (hadFocus) document.querySelector('#list [aria-pressed=true]')?.focus();
 }
 
 // The table, the first part of it chosen.
