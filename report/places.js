@@ -38,11 +38,12 @@ function atCharacter(bytes, at, step) {
   return at;
 }
 
-function line(bytes, from, to, number_, parts) {
+// A line of the page with its number.
+function line(count, parts) {
   const row = document.createElement('div');
   const head = document.createElement('span');
   head.className = 'line-number';
-  head.textContent = number_;
+  head.textContent = count;
   const code = document.createElement('code');
   code.append(...parts);
   row.append(head, code);
@@ -50,7 +51,7 @@ function line(bytes, from, to, number_, parts) {
 }
 
 // The line with the place in it: what stands before, the mark over one character, and what follows.
-function markedLine(bytes, at, number_) {
+function markedLine(bytes, at, count) {
   const {from, to} = lineAround(bytes, at);
   const first = atCharacter(bytes, Math.max(from, at - NEAR), 1);
   const last = atCharacter(bytes, Math.min(to, at + NEAR), 1);
@@ -60,36 +61,36 @@ function markedLine(bytes, at, number_) {
   mark.textContent = at >= to ? end : shown(bytes, at, next);
   const before = (first > from ? '… ' : '') + shown(bytes, first, at);
   const after = at >= to ? '' : shown(bytes, next, last) + (last < to ? ' …' : '');
-  return line(bytes, from, to, number_, [before, mark, after]);
+  return line(count, [before, mark, after]);
 }
 
 // A line without the place in it, cut where it is long.
-function plainLine(bytes, from, to, number_) {
+function plainLine(bytes, from, to, count) {
   const last = atCharacter(bytes, Math.min(to, from + 2 * NEAR), 1);
-  return line(bytes, from, to, number_, [shown(bytes, from, last) + (last < to ? ' …' : '')]);
+  return line(count, [shown(bytes, from, last) + (last < to ? ' …' : '')]);
 }
 
 // Shows the lines around a place, the one with it marked.
 function showPlace(bytes, at) {
   const rows = [];
   const own = lineAround(bytes, at);
-  const own_number = bytes.slice(0, own.from).reduce((count, it) => count + (it === 10), 1);
+  const ownCount = bytes.slice(0, own.from).reduce((count, it) => count + (it === 10), 1);
   let {from} = own;
   for (let back = 1; back <= LINES && from > 0; back += 1) {
     const above = lineAround(bytes, from - 1);
-    rows.unshift(plainLine(bytes, above.from, from - 1, own_number - back));
+    rows.unshift(plainLine(bytes, above.from, from - 1, ownCount - back));
     ({from} = above);
   }
-  rows.push(markedLine(bytes, at, own_number));
+  rows.push(markedLine(bytes, at, ownCount));
   for (let on = 1, {to} = own; on <= LINES && to + 1 < bytes.length; on += 1) {
     const below = lineAround(bytes, to + 1);
-    rows.push(plainLine(bytes, to + 1, below.to, own_number + on));
+    rows.push(plainLine(bytes, to + 1, below.to, ownCount + on));
     ({to} = below);
   }
   const excerpt = document.getElementById('excerpt');
   const column = shown(bytes, own.from, at).length + 1;
   document.getElementById('place-text').textContent = `Byte ${number(at)} of the file, counted from 0: line `
-    + `${number(own_number)}, character ${number(column)}. It is marked.`;
+    + `${number(ownCount)}, character ${number(column)}. It is marked.`;
   document.getElementById('place').hidden = false;
   excerpt.replaceChildren(...rows);
   const mark = excerpt.querySelector('mark');

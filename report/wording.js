@@ -84,7 +84,7 @@ function sayPass(answer, words) {
   };
 }
 
-function sayUndecided(answer, words, sentence, why) {
+function sayUndecided(sentence, why) {
   return {
     mark: 'Undecided',
     title: 'Whether success criterion 2.3.1 is met is not known',
@@ -92,7 +92,7 @@ function sayUndecided(answer, words, sentence, why) {
   };
 }
 
-const sayFrames = (answer, words) => sayUndecided(answer, words,
+const sayFrames = (answer, words) => sayUndecided(
   `The page may or may not flash: its animations repeat together only after more than ${number(answer.most)} `
     + `frames, which are not gone through.`, [
     `At ${words.rate} frames per second ${number(answer.most)} frames are ${seconds(secondsOf(words, answer.most))}.`,
@@ -100,14 +100,14 @@ const sayFrames = (answer, words) => sayUndecided(answer, words,
       + 'animations that end.',
   ]);
 
-const sayWork = (answer, words) => sayUndecided(answer, words,
+const sayWork = (answer, words) => sayUndecided(
   `The page may or may not flash: its boxes cut it into ${number(answer.cells)} cells, to be looked at in `
     + `${number(answer.frames)} frames.`, [
     `That is ${number(answer.cells * answer.frames)} together, and more than 4,194,304 are not gone through.`,
     'Use fewer boxes, let more of them share their edges, move them less far, or choose durations that meet sooner.',
   ]);
 
-const sayEnclosure = (answer, words) => sayUndecided(answer, words,
+const sayEnclosure = (answer, words) => sayUndecided(
   `The page may or may not flash: in the second ${whenOf(words, answer.start)} its colours lie so close to a `
     + `threshold, in the rectangle at ${answer.x}, ${answer.y}, that the bounds of an easing curve do not tell on `
     + `which side.`, [
