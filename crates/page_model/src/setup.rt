@@ -1,5 +1,5 @@
 // The viewport and the rate that a page is judged at.
-ghost use Rattle.std.specs.Prelude.{◌≡◌, ◌≤◌};
+ghost use Rattle.std.specs.Prelude.{◌≡◌, ◌*◌, ◌≤◌};
 ghost use Rattle.page_model.specs.Time.{window_of};
 ghost use Rattle.page_model.specs.Viewing as definition;
 ghost use Rattle.page_model.specs.Viewing.{IsRate, setup_of, setup_over_1001};
@@ -118,6 +118,7 @@ impl Setup {
         ensures value { result ≡ self.now.num }
         ensures some { 1 ≤ self.now.num }
         ensures limit { self.now.num ≤ 240000 }
+        ensures slow { self.now.num ≤ 240 * self.now.den }
         ensures is_rate { IsRate self.now.num self.now.den }
     {
         self.num

@@ -11,7 +11,7 @@ use Rattle.page_model.specs.Fraction.{Fraction, SameNumber}
 
 -- the usual viewport at a rate
 abbrev pub at_rate : ℕ → Setup
-at_rate rate = record { width = 1024; height = 768; rate = rate }
+at_rate rate = record { width = 1024; height = 768; num = rate; den = 1 }
 
 -- a linear animation that runs: its duration and delay in milliseconds, its count, direction and fill
 abbrev pub animation : ℕ → ℤ → Count → Direction → Fill → Anim
