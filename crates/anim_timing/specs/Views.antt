@@ -18,7 +18,7 @@ CanBeLater from definition.endless = Unit {0}
 
 -- an active duration is at most 10,000 times 100,000 ms
 abbrev pub IsShort : definition.Extent → Type 0
-IsShort (definition.finite length) = (pos 0 ≤ℤ length) × (length ≤ℤ pos 240000000000000)
+IsShort (definition.finite length) = (pos 0 ≤ℤ length) × (length ≤ℤ pos 240000000000000000)
 IsShort definition.endless = Unit {0}
 
 abbrev pub phase_as : Phase → definition.Phase

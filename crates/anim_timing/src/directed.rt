@@ -16,7 +16,7 @@ use crate::times::{active_duration, duration};
 use fix_span::Frac;
 use page_model::{Anim, Setup};
 
-/// The directed progress of an animation at frame `k`, which is shown `1000 k / rate` ms after the start: how far
+/// The directed progress of an animation at frame `k`, which is shown `1000 k den / num` ms after the start: how far
 /// it is between its first and its last keyframe, as a fraction from 0 to 1 whose denominator is positive and at
 /// most 24,000,000,000. `None` exactly where the animation has no effect.
 ///

@@ -4,7 +4,7 @@ ghost use Rattle.std.specs.Int.{w64};
 ghost use Rattle.page_model.specs.Progress as definition;
 ghost use Rattle.anim_timing.specs.Views.{extent_as, CanBeLater};
 
-/// A time in units of 1/(1000 rate) ms, or none because there is no end.
+/// A time in units of 1/(1000 num) ms, or none because there is no end.
 #[derive(Clone, Copy)]
 pub enum Extent {
     Finite(i64),

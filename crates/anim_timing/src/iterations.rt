@@ -1,5 +1,5 @@
 // How many iterations are over, and which one is the current one.
-ghost use Rattle.std.specs.Prelude.{◌≡◌, ◌≤◌};
+ghost use Rattle.std.specs.Prelude.{◌≡◌, ◌%◌, ◌≤◌};
 ghost use Rattle.page_model.specs.Progress as definition;
 ghost use Rattle.anim_timing.specs.Iterations.{ratio_as, iterations_as, turn_as};
 ghost use Rattle.anim_timing.specs.Views.{extent_as, phase_as};
@@ -46,18 +46,31 @@ fn overall_at_once(phase: Phase, count: Count) -> Iterations
     }
 }
 
-/// The overall progress: the active time over the duration.
+/// With a duration, the active time over the duration, both in thousands of the unit; behind the end it is the count.
+fn overall_in_time(phase: Phase, count: Count, duration: u64, time: u64) -> Iterations
+    requires some { 1000 ≤ duration }
+    requires limit { duration ≤ 24000000000000 }
+    ensures { iterations_as result ≡ definition.overall_in_time (phase_as phase) count duration time }
+{
+    match phase {
+        Phase::Before | Phase::Active => Iterations::SoMany(Ratio {
+            num: time / 1000,
+            den: duration / 1000,
+        }),
+        Phase::After => all_of(count),
+    }
+}
+
+/// The overall progress.
 pub fn overall_progress(phase: Phase, count: Count, duration: u64, time: u64) -> Iterations
-    requires { duration ≤ 24000000000 }
+    requires limit { duration ≤ 24000000000000 }
+    requires whole { duration % 1000 ≡ 0 }
     ensures { iterations_as result ≡ definition.overall_progress (phase_as phase) count duration time }
 {
     if duration == 0 {
         overall_at_once(phase, count)
     } else {
-        Iterations::SoMany(Ratio {
-            num: time,
-            den: duration,
-        })
+        overall_in_time(phase, count, duration, time)
     }
 }
 

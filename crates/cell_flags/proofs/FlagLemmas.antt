@@ -80,7 +80,7 @@ seen-tints : (scene : Scene) (setup : Setup) (windows : ℕ) (edges : Edges) (ti
     → IsValid scene → IsCut scene setup (frames_for setup windows) edges
     → AreTintsOfCells scene setup edges 0 (frames_for setup windows) tints → i < cells_between edges.xs edges.ys → start < windows
     → IsLooseRunIn own scene setup start run → IsInside (cell_of edges.xs edges.ys i) column row
-    → (at : IsFlagAt tints (cells_between edges.xs edges.ys) i setup.rate start flag) → AreSeen scene setup start column row run at.seen
+    → (at : IsFlagAt tints (cells_between edges.xs edges.ys) i (window_of setup) start flag) → AreSeen scene setup start column row run at.seen
 seen-tints scene setup windows edges tints i start column row run flag valid cut own_tints known before is inside at = record {
   seen = record { whole = at.whole; each = λ k within. (each k within).1 };
   one_colour = λ frame low high.
@@ -110,7 +110,7 @@ either-way told seen never = (
 flag-of : (scene : Scene) (setup : Setup) (windows : ℕ) (edges : Edges) (tints : List Tint) (i start : ℕ) (flag : Flag) → IsValid scene
     → is_coloured scene ≡ false → IsCut scene setup (frames_for setup windows) edges
     → AreTintsOfCells scene setup edges 0 (frames_for setup windows) tints → i < cells_between edges.xs edges.ys → start < windows
-    → IsFlagAt tints (cells_between edges.xs edges.ys) i setup.rate start flag → IsFlagOf scene setup start (cell_of edges.xs edges.ys i) flag
+    → IsFlagAt tints (cells_between edges.xs edges.ys) i (window_of setup) start flag → IsFlagOf scene setup start (cell_of edges.xs edges.ys i) flag
 flag-of scene setup windows edges tints i start flag valid none cut own_tints known before at = record {
   possible = λ run column row is inside.
       let are = seen-tints scene setup windows edges tints i start column row run flag valid cut own_tints known before is inside at in
@@ -127,7 +127,7 @@ flag-of scene setup windows edges tints i start flag valid none cut own_tints kn
 pub flags-are : (scene : Scene) (setup : Setup) (windows : ℕ) (edges : Edges) (tints : List Tint) (flags : List Flag) → IsValid scene
     → is_coloured scene ≡ false → IsCut scene setup (frames_for setup windows) edges
     → AreTintsOfCells scene setup edges 0 (frames_for setup windows) tints
-    → AreFlagsBefore tints (cells_between edges.xs edges.ys) setup.rate windows (cells_between edges.xs edges.ys) flags
+    → AreFlagsBefore tints (cells_between edges.xs edges.ys) (window_of setup) windows (cells_between edges.xs edges.ys) flags
     → AreFlags scene setup edges windows flags
 flags-are scene setup windows edges tints flags valid none cut own_tints are = record {
   all = are.all;

@@ -80,7 +80,7 @@ bad-wider : (painting : Painting) (setup wider : Setup) (start : ℕ) (x y : ℤ
     → IsBad painting setup start x y → IsBad painting wider start x y
 bad-wider painting setup wider start x y wide bad =
     many-carried (IsFlagged painting setup start) (IsFlagged painting wider start) wider x y
-    (λ column row within below flagged. subst (λ window. Flashes (colours_at painting column row) start window) wide.rate flagged)
+    (λ column row within below flagged. subst (λ window. Flashes (colours_at painting column row) start window) wide.window flagged)
     (many-wider (IsFlagged painting setup start) setup wider x y wide.width wide.height bad)
 
 pub badness_grows : BadnessGrows

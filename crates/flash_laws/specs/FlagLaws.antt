@@ -34,11 +34,11 @@ pub record FlagsCarryOver : Type 0 where
   pub safe : (first second : Painting) (setup : Setup) → ((start : ℕ) → PixelsCarryOver setup start first second)
       → IsSafe second setup → IsSafe first setup
 
--- another setup has the same rate, and a viewport no smaller
+-- another setup has windows of as many frames, and a viewport no smaller
 pub record IsWider (setup wider : Setup) : Type 0 where
   pub width : setup.width ≤ wider.width
   pub height : setup.height ≤ wider.height
-  pub rate : setup.rate ≡ wider.rate
+  pub window : window_of setup ≡ window_of wider
 
 -- a bad window stays bad where the viewport grows, and what is safe there was safe
 pub record BadnessGrows : Type 0 where

@@ -7,3 +7,4 @@ pub mod RefusalLemmas
 pub mod SoundLemmas
 pub mod ToldLemmas
 pub mod VerdictLemmas
+pub mod VersionLemmas

@@ -9,6 +9,7 @@ use Rattle.flash_top.specs.declared.refusal.PageRefusal.TheVariants.{TooLong, Ba
 use Rattle.flash_top.specs.declared.status.Status.{Status}
 use Rattle.flash_top.specs.declared.status.Status.TheVariants as status
 use Rattle.witness_text.specs.TintText.{colour_text, is_single}
+use Rattle.witness_text.specs.WitnessForm.{IsToldRate}
 use Rattle.witness_text.specs.WitnessText.{witness_text}
 use Rattle.page_model.specs.declared.colour.Tint.{Tint}
 
@@ -101,6 +102,11 @@ HasOwnText (Unaccepted fault) = Unit {0}
 HasOwnText (Accepted start area) = Unit {0}
 HasOwnText (Painted tint) = Unit {0}
 HasOwnText NoMemory = ⊥
+
+-- a witness that is told has a rate that a version of its text tells
+abbrev pub CanBeTold : Outcome → Type 0
+CanBeTold (Fail witness) = IsToldRate witness.rate witness.per
+CanBeTold other = Unit {0}
 
 -- what is told for an outcome: itself, or that memory was refused for its text
 abbrev pub IsToldFor : Outcome → Outcome → Type 0

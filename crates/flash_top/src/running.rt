@@ -2,7 +2,7 @@
 ghost use Rattle.std.specs.Prelude.{◌≡◌, map, string_bytes};
 ghost use Rattle.flash_top.specs.Outcomes.{IsOutcome, MayOpenFiles};
 ghost use Rattle.flash_top.specs.Telling.{Tells};
-ghost use Rattle.flash_top.specs.Texts.{HasOwnText, IsToldFor, status_of, text_of};
+ghost use Rattle.flash_top.specs.Texts.{CanBeTold, HasOwnText, IsToldFor, status_of, text_of};
 ghost use Rattle.flash_top.specs.declared.outcome.Outcome.{Outcome as Found};
 
 use crate::obeying::outcome_of;
@@ -46,7 +46,8 @@ pub fn run<S: Source, K: Sink>(
 /// Writes the text of an outcome that has something of its own to tell; where memory is refused for it,
 /// that is what comes out.
 fn tell_own<K: Sink>(alloc: Global, outcome: &Outcome, sink: &mut K) -> Status
-    requires { HasOwnText outcome.now }
+    requires own { HasOwnText outcome.now }
+    requires told { CanBeTold outcome.now }
     ensures { (told : Found)
         × IsToldFor outcome.now told
         × Tells (record {

@@ -2,7 +2,7 @@
 ghost use Rattle.std.specs.Prelude.{◌≡◌, ◌++◌, ◌∷◌, [], IfOk, MatchOption, string_bytes};
 ghost use Rattle.flash_top.specs.Telling.{Tells};
 ghost use Rattle.flash_top.specs.declared.outcome.Outcome.TheVariants.{Accepted, Enclosed, TooMuchWork, Unaccepted};
-ghost use Rattle.flash_top.specs.Texts.{HasOwnLine, HasOwnText, line_of, refusal_line, status_of, text_of};
+ghost use Rattle.flash_top.specs.Texts.{CanBeTold, HasOwnLine, HasOwnText, line_of, refusal_line, status_of, text_of};
 
 use crate::outcome::Outcome;
 use crate::refusal::PageRefusal;
@@ -126,7 +126,8 @@ pub(crate) fn fixed_text(outcome: &Outcome) -> Option<&'static [u8]>
 
 /// The text of an outcome that has numbers, a tint or a witness to tell.
 pub(crate) fn own_text(alloc: Global, outcome: &Outcome) -> Result<Vec<u8>, NoMemory>
-    requires { HasOwnText outcome.now }
+    requires own { HasOwnText outcome.now }
+    requires told { CanBeTold outcome.now }
     ensures { IfOk result (λ text. text.items ≡ text_of outcome.now) }
 {
     let mut text = match outcome {

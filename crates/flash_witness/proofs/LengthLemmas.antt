@@ -1,5 +1,5 @@
 -- The text of a witness is short: a part takes few bytes, so the parts that a rectangle can hold fit a file.
-use Rattle.std.proofs.Common.{◌≡◌, ℕ, ◌+◌, ◌*◌, ◌/◌, ◌%◌, ◌<◌, ◌≤◌, ℤ, pos, negsuc, ◌≤ℤ◌, List, [], ◌∷◌, ◌++◌, Bool, true, false, codes, length, length-append, map, nat_lt, refl, ap, arith, inl, inr}
+use Rattle.std.proofs.Common.{◌≡◌, ℕ, ◌+◌, ◌*◌, ◌/◌, ◌%◌, ◌<◌, ◌≤◌, ℤ, pos, negsuc, ◌≤ℤ◌, List, [], ◌∷◌, ◌++◌, Bool, true, false, codes, length, length-append, map, nat_lt, refl, ap, arith, inl, inr, eq-eqb, ne_eqb}
 use Rattle.std.specs.List.{AllByRecursion as Each}
 use Rattle.std.proofs.lemmas.Bool.{cases_Bool}
 use Rattle.std.proofs.lemmas.Bool.Decides.{nat_tests}
@@ -20,7 +20,7 @@ use Rattle.page_model.specs.declared.witness.Witness.{Witness}
 use Rattle.witness_text.specs.PartValue.{kind_text, natural, part_value, tint_value}
 use Rattle.witness_text.specs.TintText.{colour_text, hex_digit, is_single, tint_text}
 use Rattle.witness_text.specs.WitnessForm.{IsInForm, IsPartInForm, IsTintInForm}
-use Rattle.witness_text.specs.WitnessText.{integer, witness_text, witness_value}
+use Rattle.witness_text.specs.WitnessText.{integer, value_of_first, value_of_second, witness_text, witness_value}
 
 -- ---- strings
 
@@ -158,19 +158,26 @@ part_members p =
     (member (codes "y") (natural p.y)
     no_members))))))
 
-witness_members : Witness → Members
-witness_members w =
+members_by : (Members → Members) → ℕ → Witness → Members
+members_by and_before version w =
     member (codes "area") (natural w.area)
     (member (codes "height") (natural w.height)
     (member (codes "parts") (array (items_of (map part_value w.parts)))
+    (and_before
     (member (codes "rate") (natural w.rate)
     (member (codes "start") (natural w.start)
     (member (codes "verdict") (string (codes "fail"))
-    (member (codes "version") (natural 1)
+    (member (codes "version") (natural version)
     (member (codes "width") (natural w.width)
     (member (codes "x") (integer w.x)
     (member (codes "y") (integer w.y)
-    no_members)))))))))
+    no_members))))))))))
+
+members_of_first : Witness → Members
+members_of_first w = members_by (λ rest. rest) 1 w
+
+members_of_second : Witness → Members
+members_of_second w = members_by (λ rest. member (codes "per") (natural w.per) rest) 2 w
 
 part_short : (p : Part) → IsPartInForm p → length (compact_text (part_value p)) ≤ 400
 unfolding part_value part_members escape_byte
@@ -184,9 +191,9 @@ part_short p form =
     let height = natural_short p.height (omega (arith, form.height)) in
     object_within (part_members p) 400 (omega (arith, frames, tints, kind, x, y, width, height, form.turns.frames, form.turns.tints))
 
-pub witness_short : (w : Witness) → IsInForm w → length w.parts ≤ 87296 → length (witness_text w) < 67108864
-unfolding witness_text witness_value witness_members escape_byte
-witness_short w form few =
+first_short : (w : Witness) → IsInForm w → length w.parts ≤ 87296 → length (compact_text (value_of_first w)) < 67108864
+unfolding value_of_first members_of_first members_by escape_byte
+first_short w form few =
     let parts = items_short part_value 400 w.parts false (each_short part_value 400 IsPartInForm w.parts part_short (recursion_from_All IsPartInForm w.parts form.parts)) in
     let area = natural_short w.area (omega (arith, form.area)) in
     let start = natural_short w.start (omega (arith, form.start)) in
@@ -196,5 +203,29 @@ witness_short w form few =
     let one = natural_short 1 (omega arith) in
     let x = integer_short w.x form.x_least form.x_greatest in
     let y = integer_short w.y form.y_least form.y_greatest in
-    let whole = object_within (witness_members w) 67108863 (omega (arith, parts, few, area, start, width, height, rate, one, x, y)) in
+    let whole = object_within (members_of_first w) 67108863 (omega (arith, parts, few, area, start, width, height, rate, one, x, y)) in
     omega (arith, whole)
+
+second_short : (w : Witness) → IsInForm w → w.per ≡ 1001 → length w.parts ≤ 87296 → length (compact_text (value_of_second w)) < 67108864
+unfolding value_of_second members_of_second members_by escape_byte
+second_short w form over few =
+    let parts = items_short part_value 400 w.parts false (each_short part_value 400 IsPartInForm w.parts part_short (recursion_from_All IsPartInForm w.parts form.parts)) in
+    let area = natural_short w.area (omega (arith, form.area)) in
+    let start = natural_short w.start (omega (arith, form.start)) in
+    let width = natural_short w.width (omega (arith, form.width)) in
+    let height = natural_short w.height (omega (arith, form.height)) in
+    let rate = natural_short w.rate (omega (arith, form.rate)) in
+    let per = natural_short w.per (omega arith) in
+    let two = natural_short 2 (omega arith) in
+    let x = integer_short w.x form.x_least form.x_greatest in
+    let y = integer_short w.y form.y_least form.y_greatest in
+    let whole = object_within (members_of_second w) 67108863 (omega (arith, parts, few, area, start, width, height, rate, per, two, x, y)) in
+    omega (arith, whole)
+
+pub witness_short : (w : Witness) → IsInForm w → length w.parts ≤ 87296 → length (witness_text w) < 67108864
+unfolding witness_text witness_value
+witness_short w form few =
+    elim form.told [
+      | inl first ↦ rw (eq-eqb w.per 1 first.0) (first_short w form few)
+      | inr second ↦ rw (ne_eqb w.per 1 (omega arith)) (second_short w form second few)
+    ]

@@ -1,7 +1,7 @@
 -- Lemmas on the words of `check`, `verify` and `tint`.
-use Rattle.std.proofs.Common.{◌≡◌, ℕ, ◌<◌, ◌≤◌, List, [], ◌∷◌, map, length, get_or, arith, codes, decimal, IfSome, refl, sym, ◌∙◌, Option, Some, None}
+use Rattle.std.proofs.Common.{◌≡◌, ℕ, ◌<◌, ◌≤◌, List, [], ◌∷◌, map, length, get_or, arith, codes, decimal, IfSome, refl, subst, sym, ◌∙◌, Option, Some, None}
 use Rattle.page_model.specs.Viewing.{Viewing}
-use Rattle.flash_words.specs.Words.{IsSpot, SpellsCheck, SpellsSetup, SpellsTint, SpellsVerify, Spot}
+use Rattle.flash_words.specs.Words.{IsSpot, SpellsCheck, SpellsRate, SpellsSetup, SpellsTint, SpellsVerify, Spot}
 
 -- the texts of a list of four
 pub map-four : {X : Type 0} (f : X → List ℕ) (xs : List X) (a b c d : X) (p r s : List ℕ) → 4 ≤ length xs → length xs < 5
@@ -44,6 +44,10 @@ map-seven f (x1 ∷ x2 ∷ x3 ∷ x4 ∷ x5 ∷ x6 ∷ x7 ∷ x8 ∷ xs) a b c d
 parts_of_four : {Y : Type 0} (a b c d e f g h : Y) → a ∷ b ∷ c ∷ d ∷ [] ≡ e ∷ f ∷ g ∷ h ∷ [] → (c ≡ g) × (d ≡ h)
 parts_of_four a b c d e f g h same = (cc, cc)
 
+-- equal words spell one rate
+rate-same : {rate other : List ℕ} {width height : ℕ} {s : Viewing} → rate ≡ other → SpellsRate rate width height s → SpellsRate other width height s
+rate-same {rate} {other} {width} {height} {s} e good = subst (λ word. SpellsRate word width height s) e good
+
 -- words with the right name and a setup spell a check of the page at place 1
 pub spells_check : (words : List (List ℕ)) (name page size rate : List ℕ) (s : Viewing) → words ≡ name ∷ page ∷ size ∷ rate ∷ []
     → name ≡ codes "check" → SpellsSetup size rate s → SpellsCheck words 1 s
@@ -60,10 +64,8 @@ check_spelled words name page size rate place s e w =
       record {
         width = good.width;
         height = good.height;
-        frames_per_second = good.frames_per_second;
         size_is = parts.0 ∙ good.size_is;
-        rate_is = parts.1 ∙ good.rate_is;
-        setup_is = good.setup_is;
+        rate_is = rate-same (sym parts.1) good.rate_is;
       },
     )
 
@@ -96,10 +98,8 @@ tint_spelled words name page size rate frame column row place s spot e w =
         setup_is = record {
           width = good.width;
           height = good.height;
-          frames_per_second = good.frames_per_second;
           size_is = parts.0 ∙ good.size_is;
-          rate_is = parts.1 ∙ good.rate_is;
-          setup_is = good.setup_is;
+          rate_is = rate-same (sym parts.1) good.rate_is;
         };
         frame_is = parts.2;
         column_is = parts.3;
@@ -136,9 +136,7 @@ verify_spelled words name page witness size rate place other s e w =
       record {
         width = good.width;
         height = good.height;
-        frames_per_second = good.frames_per_second;
         size_is = parts.0 ∙ good.size_is;
-        rate_is = parts.1 ∙ good.rate_is;
-        setup_is = good.setup_is;
+        rate_is = rate-same (sym parts.1) good.rate_is;
       },
     )

@@ -1,18 +1,31 @@
 -- Which words spell which command.
 use Rattle.std.specs.Prelude.{◌≡◌, ◌<◌, ◌^◌, ◌⊎◌, ℕ, List, [], ◌∷◌, ◌++◌, Ok, codes, decimal, get_or}
-use Rattle.page_model.specs.Viewing.{Viewing, setup_of}
+use Rattle.page_model.specs.Viewing.{Viewing, setup_of, setup_over_1001}
 use Rattle.flash_words.specs.declared.words.Command.{Command}
 use Rattle.flash_words.specs.declared.words.Command.TheVariants.{Check, Verify, Tint}
+
+-- RATE spells the rate of a setup of this size: its number of frames per second
+pub record SpellsWholeRate (rate : List ℕ) (width height : ℕ) (setup : Viewing) : Type 0 where
+  pub num : ℕ
+  pub rate_is : rate ≡ decimal num
+  pub setup_is : setup_of width height num ≡ Ok setup
+
+-- or its number of frames in 1,001 seconds, followed by `/1001`
+pub record SpellsRateOver1001 (rate : List ℕ) (width height : ℕ) (setup : Viewing) : Type 0 where
+  pub num : ℕ
+  pub rate_is : rate ≡ decimal num ++ codes "/1001"
+  pub setup_is : setup_over_1001 width height num ≡ Ok setup
+
+abbrev pub SpellsRate : List ℕ → ℕ → ℕ → Viewing → Type 0
+SpellsRate rate width height setup = SpellsWholeRate rate width height setup ⊎ SpellsRateOver1001 rate width height setup
 
 -- SIZE and RATE spell a setup: SIZE is its width, an `x` (120) and its height, and RATE its rate, each number
 -- in decimal digits, with no sign and with no leading zero but in 0 itself
 pub record SpellsSetup (size rate : List ℕ) (setup : Viewing) : Type 0 where
   pub width : ℕ
   pub height : ℕ
-  pub frames_per_second : ℕ
   pub size_is : size ≡ decimal width ++ 120 ∷ decimal height
-  pub rate_is : rate ≡ decimal frames_per_second
-  pub setup_is : setup_of width height frames_per_second ≡ Ok setup
+  pub rate_is : SpellsRate rate width height setup
 
 -- `check` PAGE SIZE RATE, where any word is a PAGE: judge the page that the word at place 1 names
 pub record SpellsCheck (words : List (List ℕ)) (page : ℕ) (setup : Viewing) : Type 0 where

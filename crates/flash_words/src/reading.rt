@@ -3,7 +3,7 @@ ghost use Rattle.std.specs.Prelude.{◌≡◌, ◌<◌, ℕ, IfOk, OnErr, IfSome
 ghost use Rattle.page_model.specs.Viewing.{Viewing};
 ghost use Rattle.flash_words.specs.Words.{Spells, SpellsCheck, SpellsSetup, SpellsTint, SpellsVerify, Spot};
 
-use crate::numerals::{number, small_number, width_and_height};
+use crate::numerals::{number, number_over_1001, small_number, width_and_height};
 use crate::words::{Command, WordsFault};
 use page_model::Setup;
 
@@ -109,7 +109,10 @@ fn setup(size: &str, rate: &str) -> Option<Setup>
     ensures spelled { (s : Viewing) → SpellsSetup size.now rate.now s → result ≡ Some s }
 {
     let (width, height) = width_and_height(size)?;
-    Setup::new(width, height, small_number(rate)?).ok()
+    match number_over_1001(rate) {
+        Some(num) => Setup::over_1001(width, height, num).ok(),
+        None => Setup::new(width, height, small_number(rate)?).ok(),
+    }
 }
 
 #[cfg(test)]
@@ -148,6 +151,9 @@ mod tests {
             "check p 0x768 60",
             "check p 1024x768 060",
             "check p 1024x768 241",
+            "check p 1024x768 1000/1001",
+            "check p 1024x768 60000/1002",
+            "check p 1024x768 060000/1001",
             "light fff",
             "",
         ] {

@@ -1,5 +1,5 @@
 -- A progress, a distance and the output of steps is a number from 0 to 1.
-use Rattle.std.proofs.Common.{◌≡◌, ◌⊎◌, ℕ, ◌+◌, ◌-◌, ◌*◌, ◌%◌, ◌<◌, ◌≤◌, Bool, true, false, not, ◌&&◌, nat_lt, nat_le, nat_eq, List, Some, filter, if◌then◌else◌, option_map, arith, subst, ap, inl, inr, mul-pos, mul-le-mul_right, lt_of_mul-lt-mul_right, eq-eqb, ne_eqb, lt-ltb, le-leb, ltb-true, leb-true}
+use Rattle.std.proofs.Common.{◌≡◌, ◌⊎◌, ℕ, ◌+◌, ◌-◌, ◌*◌, ◌/◌, ◌%◌, ◌<◌, ◌≤◌, Bool, true, false, not, ◌&&◌, nat_lt, nat_le, nat_eq, List, Some, filter, if◌then◌else◌, option_map, arith, subst, ap, inl, inr, mul-pos, mul-le-mul_right, lt_of_mul-lt-mul_right, eq-eqb, ne_eqb, lt-ltb, le-leb, ltb-true, leb-true}
 use Rattle.std.proofs.lemmas.Bool.{and_parts, cases_lt, cases_eq, not-true}
 use Rattle.std.proofs.lemmas.List.Elements.{filter_passes}
 use Rattle.std.proofs.lemmas.Option.{option_and_then_some}
@@ -14,7 +14,7 @@ use Rattle.page_model.specs.declared.property.Value.{Value}
 use Rattle.page_model.specs.declared.setup.Setup.{Setup}
 use Rattle.page_model.specs.Fraction.{Fraction, one_of_one}
 use Rattle.page_model.specs.Keyframes.{Interval, Stop, distance, first_of, interval_between, interval_in, interval_of, is_reached, last_of, names, stops_of, whole}
-use Rattle.page_model.specs.Progress.{Iterations, Phase, before, active, after, remainder_of, overall_progress, overall_at_once, simple_progress, directed, runs_backwards, current_turn, is_at_end, progress_in, phase_of, active_time_of, active_duration_of, duration_of}
+use Rattle.page_model.specs.Progress.{Iterations, Phase, before, active, after, remainder_of, overall_in_time, overall_progress, overall_at_once, simple_progress, directed, runs_backwards, current_turn, is_at_end, progress_in, phase_of, active_time_of, active_duration_of, duration_of}
 use Rattle.fraction_laws.specs.FractionLaws.{IsPart, ProgressIsPart, DistanceIsPart, SteppedIsPart}
 use Rattle.fraction_laws.proofs.ListLemmas.{mapped_some, tested_some, All-slice_get}
 
@@ -29,11 +29,20 @@ at_once-part active Infinite = record { positive = omega arith; at_most_one = om
 at_once-part after (Times thousandths) = rest-part thousandths 1000 (omega arith)
 at_once-part after Infinite = record { positive = omega arith; at_most_one = omega arith }
 
-overall-part : (phase : Phase) (count : Count) (duration time : ℕ) → IsPart (remainder_of (overall_progress phase count duration time))
-overall-part phase count duration time =
+in_time-part :
+    (phase : Phase) (count : Count) (duration time : ℕ) → 0 < duration / 1000 → IsPart (remainder_of (overall_in_time phase count duration time))
+in_time-part before count duration time some = rest-part (time / 1000) (duration / 1000) some
+in_time-part active count duration time some = rest-part (time / 1000) (duration / 1000) some
+in_time-part after count duration time some = at_once-part after count
+
+-- a duration is a whole number of thousands
+overall-part :
+    (phase : Phase) (count : Count) (duration time thousands : ℕ) → duration ≡ 1000 * thousands
+    → IsPart (remainder_of (overall_progress phase count duration time))
+overall-part phase count duration time thousands whole =
     elim (cases_eq duration 0) [
       | inl e ↦ rw (eq-eqb duration 0 e) (at_once-part phase count)
-      | inr some ↦ rw (ne_eqb duration 0 some) (rest-part time duration (omega arith))
+      | inr some ↦ rw (ne_eqb duration 0 some) (in_time-part phase count duration time (omega arith))
     ]
 
 chosen-part : (test : Bool) (x y : Fraction) → IsPart x → IsPart y → IsPart (if test then x else y)
@@ -55,7 +64,8 @@ progress_in-part setup anim phase time =
     let at_end : Bool = is_at_end phase anim.count time (active_duration_of setup anim) in
     let simple : Fraction = simple_progress (remainder_of overall) at_end in
     directed-part (runs_backwards anim.direction (current_turn phase anim.count overall simple)) simple
-    (simple-part (remainder_of overall) at_end (overall-part phase anim.count (duration_of setup anim) time))
+    (simple-part (remainder_of overall) at_end
+    (overall-part phase anim.count (duration_of setup anim) time (anim.duration * setup.num) (omega arith)))
 
 pub progress-part : ProgressIsPart
 progress-part setup anim frame x e =

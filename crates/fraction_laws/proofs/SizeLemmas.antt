@@ -1,5 +1,5 @@
 -- How large the denominators of a progress and of a distance may be.
-use Rattle.std.proofs.Common.{ℕ, ◌-◌, ◌*◌, ◌≤◌, Bool, true, false, not, ◌&&◌, List, [], ◌∷◌, ◌++◌, All, None, filter, nat_eq, if◌then◌else◌, arith, subst, inl, inr, eq-eqb, ne_eqb, mul-le-mul, mul-le-mul_right}
+use Rattle.std.proofs.Common.{ℕ, ◌-◌, ◌*◌, ◌/◌, ◌≤◌, Bool, true, false, not, ◌&&◌, List, [], ◌∷◌, ◌++◌, All, None, filter, nat_eq, if◌then◌else◌, arith, subst, inl, inr, eq-eqb, ne_eqb, mul-le-mul, mul-le-mul_right}
 use Rattle.std.proofs.lemmas.Bool.{cases_eq}
 use Rattle.std.proofs.lemmas.List.Elements.{All-append, All-cons, All-filter, All-nil}
 use Rattle.page_model.specs.declared.animation.Anim.{Anim}
@@ -9,13 +9,13 @@ use Rattle.page_model.specs.declared.property.Value.{Value}
 use Rattle.page_model.specs.declared.setup.Setup.{Setup}
 use Rattle.page_model.specs.Fraction.{Fraction, one_of_one}
 use Rattle.page_model.specs.Keyframes.{Interval, Stop, added_at, has_stop_at, is_reached, stops_of, whole}
-use Rattle.page_model.specs.Progress.{Iterations, Phase, active, active_duration_of, active_time_of, after, before, current_turn, duration_of, is_at_end, overall_at_once, overall_progress, phase_of, progress_in, remainder_of, runs_backwards, simple_progress}
+use Rattle.page_model.specs.Progress.{Iterations, Phase, active, active_duration_of, active_time_of, after, before, current_turn, duration_of, is_at_end, overall_at_once, overall_in_time, overall_progress, phase_of, progress_in, remainder_of, runs_backwards, simple_progress}
 use Rattle.fraction_laws.specs.FractionLaws.{DistanceIsSmall, ProgressIsSmall}
 use Rattle.fraction_laws.proofs.FractionLemmas.{interval-found}
 use Rattle.fraction_laws.proofs.ListLemmas.{All-slice_get, mapped_some}
 use Rattle.fraction_laws.proofs.StopLemmas.{stops-within}
 
--- the denominator is 1, 1000 or the duration
+-- the denominator is 1, 1000 or the duration in thousands of the unit
 at_once-small : (limit : ℕ) (phase : Phase) (count : Count) → 1000 ≤ limit → (remainder_of (overall_at_once phase count)).den ≤ limit
 at_once-small limit before count h = omega arith
 at_once-small limit active (Times thousandths) h = h
@@ -23,18 +23,25 @@ at_once-small limit active Infinite h = omega arith
 at_once-small limit after (Times thousandths) h = h
 at_once-small limit after Infinite h = omega arith
 
-overall-small : (limit : ℕ) (phase : Phase) (count : Count) (duration time : ℕ) → 1000 ≤ limit → duration ≤ limit → (remainder_of (overall_progress phase count duration time)).den ≤ limit
+in_time-small :
+    (limit : ℕ) (phase : Phase) (count : Count) (duration time : ℕ) → 1000 ≤ limit → duration / 1000 ≤ limit
+    → (remainder_of (overall_in_time phase count duration time)).den ≤ limit
+in_time-small limit before count duration time h k = k
+in_time-small limit active count duration time h k = k
+in_time-small limit after count duration time h k = at_once-small limit after count h
+
+overall-small : (limit : ℕ) (phase : Phase) (count : Count) (duration time : ℕ) → 1000 ≤ limit → duration / 1000 ≤ limit → (remainder_of (overall_progress phase count duration time)).den ≤ limit
 overall-small limit phase count duration time h k =
     elim (cases_eq duration 0) [
       | inl e ↦ rw (eq-eqb duration 0 e) (at_once-small limit phase count h)
-      | inr some ↦ rw (ne_eqb duration 0 some) k
+      | inr some ↦ rw (ne_eqb duration 0 some) (in_time-small limit phase count duration time h k)
     ]
 
 chosen-small : (limit : ℕ) (test : Bool) (x y : Fraction) → x.den ≤ limit → y.den ≤ limit → (if test then x else y).den ≤ limit
 chosen-small limit true x y first second = first
 chosen-small limit false x y first second = second
 
-progress_in-small : (limit : ℕ) (setup : Setup) (anim : Anim) (phase : Phase) (time : ℕ) → 1000 ≤ limit → duration_of setup anim ≤ limit → (progress_in setup anim phase time).den ≤ limit
+progress_in-small : (limit : ℕ) (setup : Setup) (anim : Anim) (phase : Phase) (time : ℕ) → 1000 ≤ limit → duration_of setup anim / 1000 ≤ limit → (progress_in setup anim phase time).den ≤ limit
 progress_in-small limit setup anim phase time h k =
     let overall : Iterations = overall_progress phase anim.count (duration_of setup anim) time in
     let at_end : Bool = is_at_end phase anim.count time (active_duration_of setup anim) in

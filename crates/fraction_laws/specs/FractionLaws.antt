@@ -32,10 +32,10 @@ DistanceIsPart =
 abbrev pub SteppedIsPart : Type 0
 SteppedIsPart = (count : ℕ) (jump : Jump) (at : Fraction) → AreSteps count jump → IsPart (stepped count jump at)
 
--- for a scene in its limits, at a rate up to 240, a progress has a denominator of at most 24,000,000,000
+-- for a scene in its limits, at a rate of up to 240,000 frames in 1 or 1,001 seconds, a progress has a denominator of at most 24,000,000,000
 abbrev pub ProgressIsSmall : Type 0
 ProgressIsSmall =
-    (setup : Setup) (sets : ℕ) (anim : Anim) (frame : ℕ) (x : Fraction) → setup.rate ≤ 240 → IsAnimation sets anim
+    (setup : Setup) (sets : ℕ) (anim : Anim) (frame : ℕ) (x : Fraction) → setup.num ≤ 240000 → IsAnimation sets anim
     → progress_of setup anim frame ≡ Some x → x.den ≤ 24000000000
 
 -- and a distance one of at most 10,000 times the progress's

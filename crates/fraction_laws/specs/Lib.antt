@@ -1,2 +1,3 @@
 pub mod FractionLaws
 pub mod IntervalLaws
+pub mod OverallLaws

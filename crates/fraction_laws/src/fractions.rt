@@ -1,5 +1,6 @@
 // Fractions that a scene's times make.
 ghost use Rattle.fraction_laws.specs.FractionLaws.{DistanceIsPart, DistanceIsSmall, ProgressIsPart, ProgressIsSmall, SteppedIsPart};
+ghost use Rattle.fraction_laws.specs.OverallLaws.{OverallIsQuotient};
 
 /// A progress is a number from 0 to 1, of any animation in any frame. An overall progress in its place is refused.
 pub fn progress_is_part()
@@ -26,4 +27,10 @@ pub fn progress_is_small()
 /// A distance has a denominator of at most 10,000 times the progress's. Offsets in thousandths of a percent are refused.
 pub fn distance_is_small()
     ensures { DistanceIsSmall }
+{}
+
+/// The overall progress of an animation that takes time is its active time over its duration, in each frame with an effect. The count
+/// in its place before the end is refused.
+pub fn overall_is_quotient()
+    ensures { OverallIsQuotient }
 {}

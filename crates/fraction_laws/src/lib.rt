@@ -13,6 +13,7 @@ mod fractions;
 mod intervals;
 
 pub use fractions::{
-    distance_is_part, distance_is_small, progress_is_part, progress_is_small, stepped_is_part,
+    distance_is_part, distance_is_small, overall_is_quotient, progress_is_part, progress_is_small,
+    stepped_is_part,
 };
 pub use intervals::{interval_exists, interval_is_computed};

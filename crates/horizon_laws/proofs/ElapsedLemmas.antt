@@ -65,7 +65,7 @@ elapsed-more time more delay h =
     let two = above_zero-is (pos (time + more) -ℤ delay) (omega (arith, ints)) in
     omega (arith, ints)
 
--- the progress of an endless animation, by its duration and its elapsed time
+-- the progress of an endless animation, by its duration and its elapsed time, in thousands of the unit
 abbrev in_by : Count → Extent → Direction → ℕ → ℕ → Fraction
 in_by count length direction duration time =
     let overall : Iterations = overall_progress active count duration time in
@@ -77,18 +77,25 @@ abbrev pub by_time : Direction → ℕ → ℕ → Fraction
 by_time direction duration time =
     directed (runs_backwards direction (turn (time / duration))) (record { num = time % duration; den = duration })
 
-pub in-by_time : (direction : Direction) (duration time : ℕ) → 0 < duration → in_by Infinite endless direction duration time ≡ by_time direction duration time
-in-by_time direction duration time some =
+pub in-by_time :
+    (direction : Direction) (duration time thousands : ℕ) → duration / 1000 ≡ thousands → 0 < thousands
+    → in_by Infinite endless direction duration time ≡ by_time direction thousands (time / 1000)
+in-by_time direction duration time thousands e some =
+    let positive : 0 < duration = omega arith in
     let lasting : (duration == 0) ≡ false = grind (arith, nat_tests) in
-    let below : time % duration < duration = omega arith in
-    let partly : (time % duration == duration) ≡ false = grind (arith, nat_tests) in
-    elim (cases_Bool (time % duration == 0)) [
-      | inl z ↦ rw (lasting, z, partly) refl
-      | inr z ↦ rw (lasting, z, partly) refl
+    let below : time / 1000 % thousands < thousands = omega arith in
+    let partly : (time / 1000 % thousands == thousands) ≡ false = grind (arith, nat_tests) in
+    elim (cases_Bool (time / 1000 % thousands == 0)) [
+      | inl z ↦ rw (lasting, e, z, partly) refl
+      | inr z ↦ rw (lasting, e, z, partly) refl
     ]
 
 progress_in-by : (setup : Setup) (anim : Anim) (time : ℕ) → progress_in setup anim active time ≡ in_by anim.count (active_duration_of setup anim) anim.direction (duration_of setup anim) time
 progress_in-by setup anim time = refl
+
+-- a number of whole thousands
+in_thousands : (thousands n : ℕ) → n ≡ 1000 * thousands → n / 1000 ≡ thousands
+in_thousands thousands n e = omega arith
 
 -- the progress of an endless animation that has begun
 local-running : (setup : Setup) (anim : Anim) (frame : ℕ) → anim.paused ≡ false → local_time_of setup anim frame ≡ pos (time_of setup frame)
@@ -101,20 +108,21 @@ length-endless setup anim count lasting =
 
 pub endless-progress :
     (setup : Setup) (anim : Anim) (frame : ℕ) → anim.paused ≡ false → anim.count ≡ Infinite → 0 < anim.duration
-    → 0 < duration_of setup anim → delay_of setup anim ≤ℤ pos (time_of setup frame)
+    → 0 < anim.duration * setup.num → delay_of setup anim ≤ℤ pos (time_of setup frame)
     → progress_of setup anim frame
-    ≡ Some (by_time anim.direction (duration_of setup anim) (above_zero (pos (time_of setup frame) -ℤ delay_of setup anim)))
+    ≡ Some (by_time anim.direction (anim.duration * setup.num) (above_zero (pos (time_of setup frame) -ℤ delay_of setup anim) / 1000))
 endless-progress setup anim frame running count lasting some begun =
+    let whole : duration_of setup anim / 1000 ≡ anim.duration * setup.num = in_thousands (anim.duration * setup.num) (duration_of setup anim) (omega arith) in
     let local = local-running setup anim frame running in
     let length = length-endless setup anim count lasting in
     let time = above_zero (pos (time_of setup frame) -ℤ delay_of setup anim) in
     let phase : phase_of setup anim frame ≡ active =
     ap (λ x. phase_by x (active_from setup anim) (after_from setup anim)) local
     ∙ endless-phase (time_of setup frame) (delay_of setup anim) (active_duration_of setup anim) length begun in
-    let inside : progress_in setup anim active time ≡ by_time anim.direction (duration_of setup anim) time =
+    let inside : progress_in setup anim active time ≡ by_time anim.direction (anim.duration * setup.num) (time / 1000) =
     ap (λ x. in_by x (active_duration_of setup anim) anim.direction (duration_of setup anim) time) count
     ∙ (ap (λ x. in_by Infinite x anim.direction (duration_of setup anim) time) length
-    ∙ in-by_time anim.direction (duration_of setup anim) time some) in
+    ∙ in-by_time anim.direction (duration_of setup anim) time (anim.duration * setup.num) whole some) in
     ap (λ x. progress_by setup anim x (local_time_of setup anim frame)) phase
     ∙ (ap (λ x. progress_by setup anim active x) local ∙ ap Some inside)
 
@@ -166,10 +174,10 @@ over-stays setup anim frame later running come =
       | inl some ↦
           let here : has_come (pos (time_of setup frame)) (to_by (delay_of setup anim) (finite (pos some.0))) ≡ true =
           subst (λ x. has_come (pos (time_of setup frame)) (to_by (delay_of setup anim) x) ≡ true) some.1 come in
-          let sum : time_of setup frame + 1000000 * later ≡ time_of setup (frame + later) = omega arith in
+          let sum : time_of setup frame + 1000000 * setup.den * later ≡ time_of setup (frame + later) = omega arith in
           let there : has_come (pos (time_of setup (frame + later))) (to_by (delay_of setup anim) (finite (pos some.0))) ≡ true =
           subst (λ x. has_come (pos x) (to_by (delay_of setup anim) (finite (pos some.0))) ≡ true) sum
-          (come_later (time_of setup frame) (1000000 * later) (to_by (delay_of setup anim) (finite (pos some.0))) here) in
+          (come_later (time_of setup frame) (1000000 * setup.den * later) (to_by (delay_of setup anim) (finite (pos some.0))) here) in
           over-progress setup anim (frame + later) some.0 running some.1 there
           ∙ sym (over-progress setup anim frame some.0 running some.1 here)
     ]

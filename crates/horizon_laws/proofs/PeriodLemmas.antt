@@ -8,7 +8,7 @@ use Rattle.page_model.specs.declared.setup.Setup.{Setup}
 use Rattle.page_model.specs.declared.animation.Anim.{Anim}
 use Rattle.page_model.specs.Horizon.{IsPeriod, IsTerm, AreWholeCycles, is_endless, is_infinite, turns_round, cycle_of}
 use Rattle.page_model.specs.Progress.{duration_of}
-use Rattle.page_model.specs.Time.{time_of}
+use Rattle.page_model.specs.Time.{HasFrames, time_of}
 use Rattle.horizon_laws.specs.HorizonLaws.{IsCommonMultiple}
 use Rattle.horizon_laws.proofs.DivisionLemmas.{rest_whole, multiple_whole, factor_divides}
 use Rattle.horizon_laws.proofs.LeastLemmas.{IsDecided, IsLeast-exists}
@@ -56,12 +56,16 @@ endless-duration anim endless =
           cc
     ]
 
-pub duration-some : (setup : Setup) (anim : Anim) → 0 < setup.rate → 0 < anim.duration → 0 < duration_of setup anim
-duration-some setup anim rate lasting =
-    let long : 1 ≤ 1000 * anim.duration = omega arith in
-    one-le-mul long (omega arith)
+-- its duration is so many thousands of the unit
+pub thousands-some : (setup : Setup) (anim : Anim) → HasFrames setup → 0 < anim.duration → 0 < anim.duration * setup.num
+thousands-some setup anim rate lasting = one-le-mul lasting rate.some_num
 
-endless-cycle : (setup : Setup) (anim : Anim) → 0 < setup.rate → is_endless anim ≡ true → 0 < cycle_of setup anim
+pub duration-some : (setup : Setup) (anim : Anim) → HasFrames setup → 0 < anim.duration → 0 < duration_of setup anim
+duration-some setup anim rate lasting =
+    let thousands = thousands-some setup anim rate lasting in
+    omega arith
+
+endless-cycle : (setup : Setup) (anim : Anim) → HasFrames setup → is_endless anim ≡ true → 0 < cycle_of setup anim
 endless-cycle setup anim rate endless =
     let some = duration-some setup anim rate (endless-duration anim endless) in
     elim (cases_Bool (turns_round anim.direction)) [
@@ -70,15 +74,15 @@ endless-cycle setup anim rate endless =
     ]
 
 endless-cycles :
-    (setup : Setup) (anims : List Anim) → 0 < setup.rate → All (λ (anim : Anim). 0 < cycle_of setup anim) (filter is_endless anims)
+    (setup : Setup) (anims : List Anim) → HasFrames setup → All (λ (anim : Anim). 0 < cycle_of setup anim) (filter is_endless anims)
 endless-cycles setup anims rate k d below =
     endless-cycle setup (slice_index_or (filter is_endless anims) k d) rate (filter_passes is_endless anims k d below)
 
-own_whole : (m cycle : ℕ) → 1000000 * (m * cycle) % cycle ≡ 0
-own_whole m cycle = factor_divides cycle (1000000 * m) (1000000 * (m * cycle)) (omega arith)
+own_whole : (ticks m cycle : ℕ) → ticks * (m * cycle) % cycle ≡ 0
+own_whole ticks m cycle = factor_divides cycle (ticks * m) (ticks * (m * cycle)) (omega arith)
 
-more_whole : (m by cycle : ℕ) → 1000000 * m % cycle ≡ 0 → 1000000 * (m * by) % cycle ≡ 0
-more_whole m by cycle w = multiple_whole 1000000 cycle m (m * by) w (factor_divides m by (m * by) refl)
+more_whole : (ticks m by cycle : ℕ) → ticks * m % cycle ≡ 0 → ticks * (m * by) % cycle ≡ 0
+more_whole ticks m by cycle w = multiple_whole ticks cycle m (m * by) w (factor_divides m by (m * by) refl)
 
 -- some frames, at least one, are whole cycles of each of some animations whose cycles take time
 common : (setup : Setup) (anims : List Anim) → All (λ (anim : Anim). 0 < cycle_of setup anim) anims → (n : ℕ) × (1 ≤ n) × All (Whole setup n) anims
@@ -88,12 +92,12 @@ common setup (anim ∷ rest) some =
     let others = common setup rest (All-tail (λ (a : Anim). 0 < cycle_of setup a) anim rest some) in (
       others.0 * cycle_of setup anim,
       one-le-mul others.1 here,
-      All-cons (Whole setup (others.0 * cycle_of setup anim)) anim rest (own_whole others.0 (cycle_of setup anim))
+      All-cons (Whole setup (others.0 * cycle_of setup anim)) anim rest (own_whole (1000000 * setup.den) others.0 (cycle_of setup anim))
           (All-weaker (Whole setup others.0) (Whole setup (others.0 * cycle_of setup anim))
-          (λ a w. more_whole others.0 (cycle_of setup anim) (cycle_of setup a) w) rest others.2),
+          (λ a w. more_whole (1000000 * setup.den) others.0 (cycle_of setup anim) (cycle_of setup a) w) rest others.2),
     )
 
-pub period-exists : (setup : Setup) (anims : List Anim) → 0 < setup.rate → (period : ℕ) × IsPeriod setup anims period
+pub period-exists : (setup : Setup) (anims : List Anim) → HasFrames setup → (period : ℕ) × IsPeriod setup anims period
 period-exists setup anims rate =
     let found = common setup (filter is_endless anims) (endless-cycles setup anims rate) in
     IsLeast-exists (AreWholeCycles setup anims) (are-decided setup anims) found.0
@@ -110,17 +114,17 @@ multiple-whole :
     → Whole setup n anim
 multiple-whole setup anim n cycle multiple =
     let found = term-exists setup anim cycle in
-    multiple_whole 1000000 (cycle_of setup anim) found.0 n found.1.holds.whole (multiple found.0 found.1)
+    multiple_whole (1000000 * setup.den) (cycle_of setup anim) found.0 n found.1.holds.whole (multiple found.0 found.1)
 
 multiples-whole :
-    (setup : Setup) (anims : List Anim) (n : ℕ) → 0 < setup.rate → IsCommonMultiple setup anims n
+    (setup : Setup) (anims : List Anim) (n : ℕ) → HasFrames setup → IsCommonMultiple setup anims n
     → All (Whole setup n) (filter is_endless anims)
 multiples-whole setup anims n rate multiple k d below =
     multiple-whole setup (slice_index_or (filter is_endless anims) k d) n (endless-cycles setup anims rate k d below)
     (multiple k d below)
 
 pub period-divides :
-    (setup : Setup) (anims : List Anim) (period n : ℕ) → 0 < setup.rate → IsPeriod setup anims period → 1 ≤ n
+    (setup : Setup) (anims : List Anim) (period n : ℕ) → HasFrames setup → IsPeriod setup anims period → 1 ≤ n
     → IsCommonMultiple setup anims n → n % period ≡ 0
 period-divides setup anims period n rate is some multiple =
     let whole = multiples-whole setup anims n rate multiple in
@@ -129,7 +133,7 @@ period-divides setup anims period n rate is some multiple =
       | inl rest ↦
           let w : AreWholeCycles setup anims (n % period) = record {
             some = omega arith;
-            whole = λ k d below. rest_whole 1000000 (cycle_of setup (slice_index_or (filter is_endless anims) k d)) period n
+            whole = λ k d below. rest_whole (1000000 * setup.den) (cycle_of setup (slice_index_or (filter is_endless anims) k d)) period n
                 (is.holds.whole k d below) (whole k d below);
           } in
           let least = is.least (n % period) w in

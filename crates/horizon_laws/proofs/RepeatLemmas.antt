@@ -13,10 +13,10 @@ use Rattle.page_model.specs.declared.animation.Direction.{Direction}
 use Rattle.page_model.specs.declared.animation.Direction.TheVariants.{Normal, Reverse, Alternate, AlternateReverse}
 use Rattle.page_model.specs.Horizon.{IsHorizon, cycle_of, has_settled, is_endless, is_infinite, turns_round}
 use Rattle.page_model.specs.Progress.{finite, above_zero, after_from, delay_of, duration_of, has_come, progress_of}
-use Rattle.page_model.specs.Time.{time_of}
-use Rattle.horizon_laws.proofs.DivisionLemmas.{multiple}
+use Rattle.page_model.specs.Time.{HasFrames, time_of}
+use Rattle.horizon_laws.proofs.DivisionLemmas.{factor_divides, multiple}
 use Rattle.horizon_laws.proofs.ElapsedLemmas.{by_time, come_later, elapsed-more, endless-progress, over-stays, paused-stays}
-use Rattle.horizon_laws.proofs.PeriodLemmas.{duration-some, endless-duration}
+use Rattle.horizon_laws.proofs.PeriodLemmas.{endless-duration, thousands-some}
 
 -- more time by whole cycles leaves the rest, and adds whole iterations
 rest_same : (time duration more : ℕ) → more % duration ≡ 0 → (time + more) % duration ≡ time % duration
@@ -58,6 +58,28 @@ by_time-repeats Alternate duration time more some whole =
 by_time-repeats AlternateReverse duration time more some whole =
     rw (rest_twice time duration more whole, turns_twice time duration more some whole, odd_more (time / duration) (more / (2 * duration))) refl
 
+-- so many thousands are whole cycles where a thousand times as many are
+whole_thousands : (cycle more ticks : ℕ) → ticks ≡ 1000 * more → ticks % (1000 * cycle) ≡ 0 → more % cycle ≡ 0
+whole_thousands cycle more ticks e whole =
+    let k = ticks / (1000 * cycle) in
+    let sum : ticks ≡ 1000 * cycle * k = multiple ticks (1000 * cycle) whole in
+    factor_divides cycle k more (omega arith)
+
+twice_thousands : (duration thousands : ℕ) → duration ≡ 1000 * thousands → 2 * duration ≡ 1000 * (2 * thousands)
+twice_thousands duration thousands e = omega arith
+
+cycle-thousands :
+    (direction : Direction) (thousands more duration ticks : ℕ) → duration ≡ 1000 * thousands → ticks ≡ 1000 * more
+    → ticks % cycle_by direction duration ≡ 0 → more % cycle_by direction thousands ≡ 0
+cycle-thousands Normal thousands more duration ticks e f whole =
+    whole_thousands thousands more ticks f (subst (λ x. ticks % x ≡ 0) e whole)
+cycle-thousands Reverse thousands more duration ticks e f whole =
+    whole_thousands thousands more ticks f (subst (λ x. ticks % x ≡ 0) e whole)
+cycle-thousands Alternate thousands more duration ticks e f whole =
+    whole_thousands (2 * thousands) more ticks f (subst (λ x. ticks % x ≡ 0) (twice_thousands duration thousands e) whole)
+cycle-thousands AlternateReverse thousands more duration ticks e f whole =
+    whole_thousands (2 * thousands) more ticks f (subst (λ x. ticks % x ≡ 0) (twice_thousands duration thousands e) whole)
+
 -- what an endless animation is
 infinite_count : (count : Count) → is_infinite count ≡ true → count ≡ Infinite
 infinite_count (Times thousandths) h = cc
@@ -89,14 +111,14 @@ at_most : (a b : ℤ) → int_le a b ≡ true → a ≤ℤ b
 at_most a b h = grind (arith, ints)
 
 pub endless-repeats :
-    (setup : Setup) (anim : Anim) (frame frames : ℕ) → 0 < setup.rate → is_endless anim ≡ true
+    (setup : Setup) (anim : Anim) (frame frames : ℕ) → HasFrames setup → is_endless anim ≡ true
     → has_settled setup anim frame ≡ true → time_of setup frames % cycle_of setup anim ≡ 0
     → progress_of setup anim (frame + frames) ≡ progress_of setup anim frame
 endless-repeats setup anim frame frames rate endless settled whole =
     let running = endless-runs anim endless in
     let count = endless-count anim endless in
     let lasting = endless-duration anim endless in
-    let some = duration-some setup anim rate lasting in
+    let some = thousands-some setup anim rate lasting in
     let here : delay_of setup anim ≤ℤ pos (time_of setup frame) =
     at_most (delay_of setup anim) (pos (time_of setup frame)) (sym (settled-endless setup anim frame endless) ∙ settled) in
     let there : delay_of setup anim ≤ℤ pos (time_of setup (frame + frames)) = omega (arith, ints) in
@@ -106,9 +128,15 @@ endless-repeats setup anim frame frames rate endless settled whole =
     ap (λ x. above_zero (pos x -ℤ delay_of setup anim)) sum
     ∙ elapsed-more (time_of setup frame) (time_of setup frames) (delay_of setup anim) here in
     let time = above_zero (pos (time_of setup frame) -ℤ delay_of setup anim) in
+    let more = 1000 * setup.den * frames in
+    let by_more : time_of setup frames ≡ 1000 * more = omega arith in
+    let thousands : above_zero (pos (time_of setup (frame + frames)) -ℤ delay_of setup anim) / 1000 ≡ time / 1000 + more = omega arith in
+    let cycles : more % cycle_by anim.direction (anim.duration * setup.num) ≡ 0 =
+    cycle-thousands anim.direction (anim.duration * setup.num) more (duration_of setup anim) (time_of setup frames) (omega arith)
+    by_more whole in
     endless-progress setup anim (frame + frames) running count lasting some there
-    ∙ (ap (λ x. Some (by_time anim.direction (duration_of setup anim) x)) elapsed
-    ∙ (ap Some (by_time-repeats anim.direction (duration_of setup anim) time (time_of setup frames) some whole)
+    ∙ (ap (λ x. Some (by_time anim.direction (anim.duration * setup.num) x)) thousands
+    ∙ (ap Some (by_time-repeats anim.direction (anim.duration * setup.num) (time / 1000) more some cycles)
     ∙ sym (endless-progress setup anim frame running count lasting some here)))
 
 pub others-stay :
@@ -125,13 +153,13 @@ others-stay setup anim frame later other settled =
 -- what has settled stays settled
 pub settled-more : (setup : Setup) (anim : Anim) (frame more : ℕ) → has_settled setup anim frame ≡ true → has_settled setup anim (frame + more) ≡ true
 settled-more setup anim frame more settled =
-    let sum : time_of setup frame + 1000000 * more ≡ time_of setup (frame + more) = omega arith in
+    let sum : time_of setup frame + 1000000 * setup.den * more ≡ time_of setup (frame + more) = omega arith in
     elim (cases_Bool (is_endless anim)) [
       | inl endless ↦
           let here : begun setup anim frame ≡ true = sym (settled-endless setup anim frame endless) ∙ settled in
           settled-endless setup anim (frame + more) endless
           ∙ subst (λ x. int_le (delay_of setup anim) (pos x) ≡ true) sum
-          (come_later (time_of setup frame) (1000000 * more) (finite (delay_of setup anim)) here)
+          (come_later (time_of setup frame) (1000000 * setup.den * more) (finite (delay_of setup anim)) here)
       | inr other ↦
           let here : (anim.paused || has_come (pos (time_of setup frame)) (after_from setup anim)) ≡ true =
           sym (settled-other setup anim frame other) ∙ settled in
@@ -142,7 +170,7 @@ settled-more setup anim frame more settled =
                 let come = rw running at here in
                 rw running
                 (subst (λ x. has_come (pos x) (after_from setup anim) ≡ true) sum
-                (come_later (time_of setup frame) (1000000 * more) (after_from setup anim) come))
+                (come_later (time_of setup frame) (1000000 * setup.den * more) (after_from setup anim) come))
           ]
     ]
 
@@ -166,7 +194,7 @@ where_passing p P (x ∷ xs) all =
     ]
 
 pub repeats-together :
-    (setup : Setup) (anims : List Anim) (settled period frame : ℕ) → 0 < setup.rate → IsHorizon setup anims settled period
+    (setup : Setup) (anims : List Anim) (settled period frame : ℕ) → HasFrames setup → IsHorizon setup anims settled period
     → settled ≤ frame → All (λ (anim : Anim). progress_of setup anim (frame + period) ≡ progress_of setup anim frame) anims
 repeats-together setup anims settled period frame rate horizon later k d below =
     let h = settled-later setup (slice_index_or anims k d) settled frame later (horizon.settled_is.holds k d below) in

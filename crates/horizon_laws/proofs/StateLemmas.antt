@@ -16,6 +16,7 @@ use Rattle.page_model.specs.Keyframes.{Interval, interval_of, last_of}
 use Rattle.page_model.specs.LayerAt.{still, State, IsShownWith, IsStateAt, IsValueOn, alpha_of, blue_of, course_by, course_of, declared, green_of, interval_at, is_held, length_of, red_of}
 use Rattle.page_model.specs.Progress.{progress_of}
 use Rattle.page_model.specs.Slot.{alpha, channel, extent, position}
+use Rattle.page_model.specs.Time.{HasFrames}
 use Rattle.horizon_laws.proofs.RepeatLemmas.{repeats-together}
 
 -- two parts of a list
@@ -78,7 +79,7 @@ state-carries scene setup frame other layer state same is = record {
 }
 
 pub state-repeats :
-    (scene : Scene) (setup : Setup) (settled period frame number : ℕ) (layer : Layer) (state : State) → 0 < setup.rate
+    (scene : Scene) (setup : Setup) (settled period frame number : ℕ) (layer : Layer) (state : State) → HasFrames setup
     → IsHorizon setup (all_animations scene) settled period → settled ≤ frame → slice_get scene.layers number ≡ Some layer
     → IsStateAt scene setup (frame + period) layer state → IsStateAt scene setup frame layer state
 state-repeats scene setup settled period frame number layer state rate horizon later there is =

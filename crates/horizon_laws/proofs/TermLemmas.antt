@@ -26,7 +26,7 @@ whole-decided setup anim n =
 pub term-exists : (setup : Setup) (anim : Anim) → 0 < cycle_of setup anim → (term : ℕ) × IsTerm setup anim term
 term-exists setup anim some =
     IsLeast-exists (IsWholeCycles setup anim) (whole-decided setup anim) (cycle_of setup anim)
-    (record { some = omega arith; whole = cycle_whole 1000000 (cycle_of setup anim) })
+    (record { some = omega arith; whole = cycle_whole (1000000 * setup.den) (cycle_of setup anim) })
 
 -- a whole number of cycles is a multiple of the term
 pub term-divides : (setup : Setup) (anim : Anim) (term frames : ℕ) → IsTerm setup anim term → IsWholeCycles setup anim frames → frames % term ≡ 0
@@ -36,7 +36,7 @@ term-divides setup anim term frames is whole =
       | inl rest ↦
           let w : IsWholeCycles setup anim (frames % term) = record {
             some = omega arith;
-            whole = rest_whole 1000000 (cycle_of setup anim) term frames is.holds.whole whole.whole;
+            whole = rest_whole (1000000 * setup.den) (cycle_of setup anim) term frames is.holds.whole whole.whole;
           } in
           let least = is.least (frames % term) w in
           let some = is.holds.some in
@@ -48,7 +48,7 @@ pub term-multiples :
     → IsWholeCycles setup anim frames ↔ (frames % term ≡ 0)
 term-multiples setup anim term frames cycle is some = (
   term-divides setup anim term frames is,
-  λ rest. record { some = some; whole = multiple_whole 1000000 (cycle_of setup anim) term frames is.holds.whole rest },
+  λ rest. record { some = some; whole = multiple_whole (1000000 * setup.den) (cycle_of setup anim) term frames is.holds.whole rest },
 )
 
 -- the least whole number of frames is the cycle over the greatest common divisor
@@ -83,9 +83,11 @@ term-by_divisor setup anim divisor cycle is =
     let found = term-exists setup anim cycle in
     let term = found.1 in
     let own : IsWholeCycles setup anim (cycle_of setup anim) =
-    record { some = omega arith; whole = cycle_whole 1000000 (cycle_of setup anim) } in
+    record { some = omega arith; whole = cycle_whole (1000000 * setup.den) (cycle_of setup anim) } in
+    let one_frame : time_of setup 1 ≡ 1000000 * setup.den = omega arith in
     let same : found.0 ≡ cycle_of setup anim / divisor =
-    least_by_divisor 1000000 (cycle_of setup anim) found.0 divisor cycle (omega (arith, term.holds.some))
-    (term-divides setup anim found.0 (cycle_of setup anim) term own) term.holds.whole is
+    least_by_divisor (1000000 * setup.den) (cycle_of setup anim) found.0 divisor cycle (omega (arith, term.holds.some))
+    (term-divides setup anim found.0 (cycle_of setup anim) term own) term.holds.whole
+    (subst (λ x. IsGcd (cycle_of setup anim) x divisor) one_frame is)
     (λ m some whole. term.least m (record { some = some; whole = whole })) in
     subst (IsTerm setup anim) same term

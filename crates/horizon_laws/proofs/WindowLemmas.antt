@@ -11,7 +11,7 @@ use Rattle.page_model.specs.Flash.{Alternates, AlternatesEitherWay, Between, Has
 use Rattle.page_model.specs.Horizon.{IsHorizon, IsNeeded, all_animations}
 use Rattle.page_model.specs.Light.{IsFall, IsRise}
 use Rattle.page_model.specs.Red.{IsIntoRed, IsOutOfRed}
-use Rattle.page_model.specs.Time.{window_of}
+use Rattle.page_model.specs.Time.{HasFrames, window_of}
 use Rattle.horizon_laws.proofs.StateLemmas.{state-repeats}
 
 -- frames from a period on are earlier frames, each one period later
@@ -108,7 +108,7 @@ later-bad scene setup run start period x y bad = record {
 }
 
 later-run :
-    (scene : Scene) (setup : Setup) (settled period start : ℕ) (run : Run) → 0 < setup.rate
+    (scene : Scene) (setup : Setup) (settled period start : ℕ) (run : Run) → HasFrames setup
     → IsHorizon setup (all_animations scene) settled period → settled ≤ start → IsRunIn scene setup (start + period) run
     → IsRunIn scene setup start (run_later period run)
 later-run scene setup settled period start run rate horizon behind is frame number layer above below there =
@@ -122,7 +122,7 @@ NoneBefore scene setup needed =
     → IsBad (painting_of scene run) setup start x y → ⊥
 
 none_up_to :
-    (scene : Scene) (setup : Setup) (settled period : ℕ) → 0 < setup.rate → IsHorizon setup (all_animations scene) settled period
+    (scene : Scene) (setup : Setup) (settled period : ℕ) → HasFrames setup → IsHorizon setup (all_animations scene) settled period
     → NoneBefore scene setup (settled + period) → (limit start : ℕ) → start ≤ limit → (x y : ℤ) (run : Run)
     → IsRunIn scene setup start run → IsBad (painting_of scene run) setup start x y → ⊥
 none_up_to scene setup settled period rate horizon none zero start within x y run is bad =
@@ -142,7 +142,7 @@ none_up_to scene setup settled period rate horizon none (suc limit) start within
     ]
 
 pub few-suffice :
-    (scene : Scene) (setup : Setup) (needed : ℕ) → 0 < setup.rate → IsNeeded setup (all_animations scene) needed
+    (scene : Scene) (setup : Setup) (needed : ℕ) → HasFrames setup → IsNeeded setup (all_animations scene) needed
     → NoneBefore scene setup needed → IsSafeScene scene setup
 few-suffice scene setup needed rate is none start x y run runs bad =
     let none_there = subst (NoneBefore scene setup) is.needed_is none in

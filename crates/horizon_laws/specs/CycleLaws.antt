@@ -7,14 +7,14 @@ use Rattle.page_model.specs.declared.animation.Direction.TheVariants.{Alternate}
 use Rattle.page_model.specs.declared.animation.Fill.TheVariants.{Absent}
 use Rattle.page_model.specs.Horizon.{IsHorizon, is_endless, has_settled, cycle_of}
 use Rattle.page_model.specs.Progress.{progress_of}
-use Rattle.page_model.specs.Time.{time_of}
+use Rattle.page_model.specs.Time.{HasFrames, time_of}
 use Rattle.time_values.specs.Examples.{at_rate, animation, fraction, Is}
 use Rattle.horizon_laws.specs.WrongCycle.{single_cycle_of}
 
 -- an endless animation that has begun has the same progress a whole number of cycles later
 abbrev pub RepeatsBy : (Setup → Anim → ℕ) → Type 0
 RepeatsBy cycle =
-    (setup : Setup) (anim : Anim) (frame frames : ℕ) → 0 < setup.rate → is_endless anim ≡ true
+    (setup : Setup) (anim : Anim) (frame frames : ℕ) → HasFrames setup → is_endless anim ≡ true
     → has_settled setup anim frame ≡ true → time_of setup frames % cycle setup anim ≡ 0
     → progress_of setup anim (frame + frames) ≡ progress_of setup anim frame
 
@@ -27,7 +27,7 @@ StaysSettled =
 -- so all of some animations have the same progress one period later
 abbrev pub RepeatsBehindSettled : Type 0
 RepeatsBehindSettled =
-    (setup : Setup) (anims : List Anim) (settled period frame : ℕ) → 0 < setup.rate → IsHorizon setup anims settled period
+    (setup : Setup) (anims : List Anim) (settled period frame : ℕ) → HasFrames setup → IsHorizon setup anims settled period
     → settled ≤ frame → All (λ (anim : Anim). progress_of setup anim (frame + period) ≡ progress_of setup anim frame) anims
 
 pub record ProgressRepeats : Type 0 where

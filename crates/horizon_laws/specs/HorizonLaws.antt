@@ -5,7 +5,7 @@ use Rattle.std.specs.Int.{IsGcd}
 use Rattle.page_model.specs.declared.setup.Setup.{Setup}
 use Rattle.page_model.specs.declared.animation.Anim.{Anim}
 use Rattle.page_model.specs.Horizon.{IsSettled, IsPeriod, IsHorizon, IsNeeded, IsTerm, IsWholeCycles, is_endless, turns_round, cycle_of}
-use Rattle.page_model.specs.Time.{time_of}
+use Rattle.page_model.specs.Time.{HasFrames, time_of}
 
 -- no animation at all has settled at once, repeats after one frame, and needs one frame
 pub record NothingNeedsOneFrame : Type 0 where
@@ -13,10 +13,10 @@ pub record NothingNeedsOneFrame : Type 0 where
   pub needed : (setup : Setup) → IsNeeded setup [] 1
   pub no_other : (setup : Setup) (needed : ℕ) → IsNeeded setup [] needed → needed ≡ 1
 
--- any animations, at a rate from 1 on, have a settled frame and a period
+-- any animations, at a rate that has frames, have a settled frame and a period
 pub record HorizonExists : Type 0 where
-  pub horizon : (setup : Setup) (anims : List Anim) → 0 < setup.rate → (settled : ℕ) × (period : ℕ) × IsHorizon setup anims settled period
-  pub needed : (setup : Setup) (anims : List Anim) → 0 < setup.rate → (needed : ℕ) × IsNeeded setup anims needed
+  pub horizon : (setup : Setup) (anims : List Anim) → HasFrames setup → (settled : ℕ) × (period : ℕ) × IsHorizon setup anims settled period
+  pub needed : (setup : Setup) (anims : List Anim) → HasFrames setup → (needed : ℕ) × IsNeeded setup anims needed
 
 -- animations have at most one settled frame and one period, and so at most one number of frames that they need
 pub record HorizonIsUnique : Type 0 where
@@ -45,10 +45,10 @@ abbrev pub IsCommonMultiple : Setup → List Anim → ℕ → Type 0
 IsCommonMultiple setup anims n =
     All (λ (anim : Anim). (term : ℕ) → IsTerm setup anim term → n % term ≡ 0) (filter is_endless anims)
 
--- the period is the least common multiple of the terms; there is one at each rate from 1 on
+-- the period is the least common multiple of the terms; there is one at each rate that has frames
 pub record PeriodIsLeastCommonMultiple : Type 0 where
-  pub exists : (setup : Setup) (anims : List Anim) → 0 < setup.rate → (period : ℕ) × IsPeriod setup anims period
+  pub exists : (setup : Setup) (anims : List Anim) → HasFrames setup → (period : ℕ) × IsPeriod setup anims period
   pub common : (setup : Setup) (anims : List Anim) (period : ℕ) → IsPeriod setup anims period
       → IsCommonMultiple setup anims period
-  pub divides_each : (setup : Setup) (anims : List Anim) (period n : ℕ) → 0 < setup.rate → IsPeriod setup anims period → 1 ≤ n
+  pub divides_each : (setup : Setup) (anims : List Anim) (period n : ℕ) → HasFrames setup → IsPeriod setup anims period → 1 ≤ n
       → IsCommonMultiple setup anims n → n % period ≡ 0

@@ -1,8 +1,9 @@
 -- Flashes, bad windows and safety, over any painting that is handed in: a function from a frame, a column and a row to a
 -- colour. So lamps, scenes and all that is painted share one statement. WCAG 2.2, success criterion 2.3.1 and its definitions
--- of the general flash and red flash thresholds: more than three flashes are eight opposing changes, a one-second window at a
--- rate of H is H + 1 frames, and the area is a quarter of 341 by 256 pixels, at each whole position. That changes count
--- between any two frames of a window, and that general and red flashes count together, is the project's own.
+-- of the general flash and red flash thresholds: more than three flashes are eight opposing changes, a one-second window has
+-- as many frames after its first as are shown in a whole second, and the area is a quarter of 341 by 256 pixels, at each whole
+-- position. That changes count between any two frames of a window, and that general and red flashes count together, is the
+-- project's own.
 use Rattle.std.specs.Prelude.{ℕ, zero, suc, ℤ, pos, Bool, cond, ◌≡◌, ◌⊎◌, ◌+◌, ◌<◌, ◌≤◌, ◌+ℤ◌, ◌≤ℤ◌, IsTrue, List, [], ◌∷◌, length, All}
 use Rattle.std.specs.List.Sorted.{IsStrictlyIncreasing}
 use Rattle.page_model.specs.declared.setup.Setup.{Setup}

@@ -131,10 +131,17 @@ overall_at_once before count = so_many zero_of_one
 overall_at_once active count = all_of count
 overall_at_once after count = all_of count
 
--- the overall progress: the active time over the duration
+-- with a duration, it is the active time over the duration. Up to the end both are whole thousands of the unit of time, and the
+-- fraction counts the thousands; behind the end, where the active time is the whole active duration, it is the count.
+abbrev pub overall_in_time : Phase → Count → ℕ → ℕ → Iterations
+overall_in_time before count duration time = so_many (record { num = time / 1000; den = duration / 1000 })
+overall_in_time active count duration time = so_many (record { num = time / 1000; den = duration / 1000 })
+overall_in_time after count duration time = all_of count
+
+-- the overall progress
 abbrev pub overall_progress : Phase → Count → ℕ → ℕ → Iterations
 overall_progress phase count duration time =
-    if duration == 0 then overall_at_once phase count else so_many (record { num = time; den = duration })
+    if duration == 0 then overall_at_once phase count else overall_in_time phase count duration time
 
 -- the part of the current iteration that is over: the overall progress modulo 1
 abbrev pub remainder_of : Iterations → Fraction

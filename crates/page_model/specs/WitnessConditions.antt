@@ -13,11 +13,12 @@ use Rattle.page_model.specs.Change.{IsSureRise, IsSureFall, IsSurelyIntoRed, IsS
 use Rattle.page_model.specs.Flash.{AlternatesEitherWay}
 use Rattle.page_model.specs.Time.{window_of}
 
--- 1: width, height and rate are those of the setup
+-- 1: width, height and both parts of the rate are those of the setup
 pub record HasSetup (setup : Setup) (w : Witness) : Type 0 where
   pub width : w.width ≡ setup.width
   pub height : w.height ≡ setup.height
-  pub rate : w.rate ≡ setup.rate
+  pub rate : w.rate ≡ setup.num
+  pub per : w.per ≡ setup.den
 
 -- a part has pixels, and all of them lie in the viewport and in the rectangle
 pub record LiesInside (setup : Setup) (w : Witness) (part : Part) : Type 0 where

@@ -32,13 +32,15 @@ pub struct Part {
     pub tints: [Tint; 9],
 }
 
-/// A stated bad window: the setup, the first frame, the upper left pixel of the 341 by 256
-/// rectangle, the number of flashing pixels in it, and the parts that hold them.
+/// A stated bad window: the setup, with `rate` frames in `per` seconds, the first frame, the upper
+/// left pixel of the 341 by 256 rectangle, the number of flashing pixels in it, and the parts that
+/// hold them.
 #[derive(Drop)]
 pub struct Witness {
     pub width: u16,
     pub height: u16,
-    pub rate: u16,
+    pub rate: u32,
+    pub per: u32,
     pub start: u32,
     pub x: i32,
     pub y: i32,

@@ -48,7 +48,7 @@ four_layers = record {
 }
 
 abbrev pub small_viewport : Setup
-small_viewport = record { width = 100; height = 240; rate = 5 }
+small_viewport = record { width = 100; height = 240; num = 5; den = 1 }
 
 abbrev pub columns : List ℕ
 columns = 0 ∷ (30 ∷ (99 ∷ (100 ∷ [])))

@@ -1,5 +1,5 @@
 -- What is known of two lists of animations, of one after the other.
-use Rattle.std.proofs.Common.{◌≡◌, ℕ, ◌+◌, ◌%◌, ◌≤◌, max, true, List, [], ◌∷◌, ◌++◌, arith, subst, sym, inl, inr}
+use Rattle.std.proofs.Common.{◌≡◌, ℕ, ◌+◌, ◌*◌, ◌%◌, ◌≤◌, max, true, List, [], ◌∷◌, ◌++◌, arith, subst, sym, inl, inr}
 use Rattle.std.specs.Prelude.{◌-◌, All, filter, Option, Some, None, nat_le, slice_index_or}
 use Rattle.std.proofs.lemmas.Bool.{cases_Bool, cases_lt}
 use Rattle.std.proofs.lemmas.Bool.Decides.{nat_tests}
@@ -67,7 +67,7 @@ period-rest setup anims period n is w =
       | inl rest ↦
           let least = is.least (n % period) (record {
             some = omega arith;
-            whole = λ k d below. rest_whole 1000000 (cycle_of setup (slice_index_or (filter is_endless anims) k d)) period n
+            whole = λ k d below. rest_whole (1000000 * setup.den) (cycle_of setup (slice_index_or (filter is_endless anims) k d)) period n
                 (is.holds.whole k d below) (w.whole k d below);
           }) in
           let some = is.holds.some in
@@ -76,7 +76,7 @@ period-rest setup anims period n is w =
 
 multiple-whole : (setup : Setup) (anims : List Anim) (period n : ℕ) → IsPeriod setup anims period → n % period ≡ 0 → All (Whole setup n) (filter is_endless anims)
 multiple-whole setup anims period n is rest k d below =
-    multiple_whole 1000000 (cycle_of setup (slice_index_or (filter is_endless anims) k d)) period n (is.holds.whole k d below) rest
+    multiple_whole (1000000 * setup.den) (cycle_of setup (slice_index_or (filter is_endless anims) k d)) period n (is.holds.whole k d below) rest
 
 at_least : (n multiple : ℕ) → 1 ≤ n → n % multiple ≡ 0 → multiple ≤ n
 at_least n multiple some rest = le_of_dvd (omega arith) (dvd_of_mod-eq-zero multiple rest)

@@ -1,5 +1,6 @@
 pub mod JoinLemmas
 pub mod MultipleLemmas
 pub mod NeededLemmas
+pub mod SettledLemmas
 pub mod SingleLemmas
 pub mod WindowLemmas

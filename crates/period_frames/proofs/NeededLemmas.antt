@@ -8,6 +8,7 @@ use Rattle.page_model.specs.declared.scene.Layer.{Layer}
 use Rattle.page_model.specs.declared.scene.Scene.{Scene}
 use Rattle.page_model.specs.Colour.{IsSafeScene}
 use Rattle.page_model.specs.Horizon.{IsHorizon, all_animations, animations_of}
+use Rattle.page_model.specs.Time.{HasFrames}
 use Rattle.horizon_laws.proofs.SettledLemmas.{horizon-exists}
 use Rattle.horizon_laws.proofs.WindowLemmas.{few-suffice}
 use Rattle.period_frames.specs.Needed.{NeedsMore, NoneBadBefore}
@@ -40,12 +41,12 @@ more-by_sum setup anims settled period is many = record {
 }
 
 -- a long period alone is too much
-pub more-by_period : (setup : Setup) (anims : List Anim) → 0 < setup.rate → IsPeriodOrLong setup anims None → NeedsMore setup anims
+pub more-by_period : (setup : Setup) (anims : List Anim) → HasFrames setup → IsPeriodOrLong setup anims None → NeedsMore setup anims
 more-by_period setup anims rate long =
     let found = horizon-exists setup anims rate in
     let many = long found.1 found.2.period_is.holds in
     more-by_sum setup anims found.0 found.1 found.2 (omega arith)
 
-pub safe : (scene : Scene) (setup : Setup) (settled period : ℕ) → 0 < setup.rate → IsHorizon setup (all_animations scene) settled period → NoneBadBefore scene setup (settled + period) → IsSafeScene scene setup
+pub safe : (scene : Scene) (setup : Setup) (settled period : ℕ) → HasFrames setup → IsHorizon setup (all_animations scene) settled period → NoneBadBefore scene setup (settled + period) → IsSafeScene scene setup
 safe scene setup settled period rate is =
     few-suffice scene setup (settled + period) rate (record { settled = settled; period = period; horizon = is; needed_is = refl })

@@ -6,11 +6,12 @@ use Rattle.page_model.specs.declared.setup.Setup.{Setup}
 use Rattle.page_model.specs.declared.scene.Scene.{Scene}
 use Rattle.page_model.specs.Horizon.{IsHorizon, all_animations}
 use Rattle.page_model.specs.LayerAt.{IsStateAt}
+use Rattle.page_model.specs.Time.{HasFrames}
 use Rattle.horizon_laws.proofs.StateLemmas.{state-repeats}
 use Rattle.period_frames.specs.Windows.{IsSeenBefore, WindowsRepeat}
 
 seen_up_to :
-    (scene : Scene) (setup : Setup) (settled period : ℕ) → 0 < setup.rate → IsHorizon setup (all_animations scene) settled period
+    (scene : Scene) (setup : Setup) (settled period : ℕ) → HasFrames setup → IsHorizon setup (all_animations scene) settled period
     → (limit start : ℕ) → start ≤ limit → IsSeenBefore scene setup (settled + period) start
 seen_up_to scene setup settled period rate horizon zero start within =
     let some = horizon.period_is.holds.some in

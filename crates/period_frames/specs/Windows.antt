@@ -5,7 +5,7 @@ use Rattle.page_model.specs.declared.scene.Layer.{Layer}
 use Rattle.page_model.specs.declared.scene.Scene.{Scene}
 use Rattle.page_model.specs.Horizon.{IsNeeded, all_animations}
 use Rattle.page_model.specs.LayerAt.{State, IsStateAt}
-use Rattle.page_model.specs.Time.{window_of}
+use Rattle.page_model.specs.Time.{HasFrames, window_of}
 
 -- a window has each exact state of another one, frame by frame
 abbrev pub HasStatesOf : Scene → Setup → ℕ → ℕ → Type 0
@@ -22,5 +22,5 @@ pub record IsSeenBefore (scene : Scene) (setup : Setup) (limit start : ℕ) : Ty
 -- each window has the states of one that starts before the needed frames
 abbrev pub WindowsRepeat : Type 0
 WindowsRepeat =
-    (scene : Scene) (setup : Setup) (needed start : ℕ) → 0 < setup.rate → IsNeeded setup (all_animations scene) needed
+    (scene : Scene) (setup : Setup) (needed start : ℕ) → HasFrames setup → IsNeeded setup (all_animations scene) needed
     → IsSeenBefore scene setup needed start

@@ -4,7 +4,7 @@ ghost use Rattle.page_model.specs.Horizon as definition;
 ghost use Rattle.anim_timing.specs.Timed.{IsTimed};
 
 use crate::multiples::greatest_divisor;
-use crate::settling::{FRAME, ticks};
+use crate::settling::{frame_time, ticks};
 use page_model::{Anim, Count, Direction, Setup};
 
 /// Whether an animation runs for ever: it isn't paused, and has infinitely many iterations that take time.
@@ -55,5 +55,5 @@ pub(crate) fn term(anim: &Anim, setup: &Setup) -> u64
     ensures { definition.IsTerm setup.now anim.now result }
 {
     let cycle = cycle(anim, setup);
-    cycle / greatest_divisor(cycle, FRAME)
+    cycle / greatest_divisor(cycle, frame_time(setup))
 }

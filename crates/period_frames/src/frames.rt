@@ -25,8 +25,9 @@ pub fn needed(scene: &Scene, setup: &Setup) -> Option<Horizon>
     ensures many { IfNone result (NeedsMore setup.now (all_animations scene.now)) }
     ensures for_ever { IfSome result (λ h. NoneBadBefore scene.now setup.now (h.settled + h.period) → IsSafeScene scene.now setup.now) }
 {
-    // It isn't 0, so each endless animation's cycle takes time, and there is a period.
-    let _rate = setup.rate();
+    // Neither is 0, so each endless animation's cycle takes time, and there is a period.
+    let _num = setup.num();
+    let _den = setup.den();
     let all = Repeat::of_layers(scene.layers.as_slice(), setup);
     let settled = all.settled;
     let period = all.period?;

@@ -36,7 +36,7 @@ blinking_page = page_with blinks 5000
 
 -- a viewport of the size of the rectangle, at ten frames a second
 abbrev pub ten_a_second : Setup
-ten_a_second = record { width = 341; height = 256; rate = 10 }
+ten_a_second = record { width = 341; height = 256; num = 10; den = 1 }
 
 -- the page is a valid scene, and bad from the first frame on, at the upper left pixel
 pub record BlinkingIsBad : Type 0 where

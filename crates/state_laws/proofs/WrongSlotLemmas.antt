@@ -28,7 +28,7 @@ nearer-breaks good = true_is_false (good.hidden refl)
 
 -- the distance after a second: half the way
 abbrev half_way : Fraction
-half_way = record { num = 10000 * 1000000; den = 10000 * 2000000 }
+half_way = record { num = 10000 * 1000; den = 10000 * 2000 }
 
 -- at scale 16 the curve is far below 0, by more than the slack of that scale
 not_reached : RoundsTo channel diving half_way (pos 0) (pos 255) (pos 0) → ⊥

@@ -55,7 +55,7 @@ abbrev pub diving_page : Scene
 diving_page = page_with dives 10000
 
 abbrev pub one_a_second : Setup
-one_a_second = record { width = 1; height = 1; rate = 1 }
+one_a_second = record { width = 1; height = 1; num = 1; den = 1 }
 
 -- the page is a valid scene, and after a second it has no such red: so its first window has no run
 pub record RedRunBreaks : Type 0 where

@@ -11,7 +11,11 @@ use Rattle.page_model.specs.Fraction.{Fraction, SameNumber}
 
 -- the usual viewport at a rate
 abbrev pub at_rate : ℕ → Setup
-at_rate rate = record { width = 1024; height = 768; rate = rate }
+at_rate rate = record { width = 1024; height = 768; num = rate; den = 1 }
+
+-- and at a rate over 1,001
+abbrev pub over_1001 : ℕ → Setup
+over_1001 num = record { width = 1024; height = 768; num = num; den = 1001 }
 
 -- a linear animation that runs: its duration and delay in milliseconds, its count, direction and fill
 abbrev pub animation : ℕ → ℤ → Count → Direction → Fill → Anim

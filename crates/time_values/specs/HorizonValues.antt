@@ -6,7 +6,7 @@ use Rattle.page_model.specs.declared.animation.Count.TheVariants.{Times, Infinit
 use Rattle.page_model.specs.declared.animation.Direction.TheVariants.{Normal, Reverse, Alternate, AlternateReverse}
 use Rattle.page_model.specs.declared.animation.Fill.TheVariants.{Absent, Both}
 use Rattle.page_model.specs.Horizon.{IsHorizon}
-use Rattle.time_values.specs.Examples.{at_rate, animation, paused}
+use Rattle.time_values.specs.Examples.{at_rate, over_1001, animation, paused}
 
 -- at a rate, animations have settled by a frame, and repeat after so many
 abbrev Repeats : ℕ → List Anim → ℕ → ℕ → Type 0
@@ -37,3 +37,9 @@ pub record PeriodValues : Type 0 where
       Repeats 10 (animation 250 (pos 0) (Times 4000) Normal Both ∷ (animation 300 (pos 0) Infinite Alternate Absent ∷ [])) 10 6
   pub short_and_endless :
       Repeats 30 (animation 100 (pos 107) (Times 1) Normal Absent ∷ (animation 1000 (pos 0) Infinite Normal Absent ∷ [])) 4 30
+
+-- at a rate over 1,001, where a whole number of frames lasts a whole number of 1,001 ms: a second there and a second back takes so long
+pub record VideoHorizons : Type 0 where
+  pub sixty_frames : IsHorizon (over_1001 60000) (animation 1001 (pos 0) Infinite Normal Absent ∷ []) 0 60
+  pub seconds : IsHorizon (over_1001 60000) (animation 1000 (pos 0) Infinite Alternate Absent ∷ []) 0 120000
+  pub finite : IsHorizon (over_1001 60000) (animation 1001 (pos 0) (Times 20000) Normal Absent ∷ []) 1200 1

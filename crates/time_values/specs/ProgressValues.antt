@@ -7,7 +7,7 @@ use Rattle.page_model.specs.declared.animation.Direction.TheVariants.{Normal, Re
 use Rattle.page_model.specs.declared.animation.Fill.TheVariants.{Absent, Forwards, Backwards, Both}
 use Rattle.page_model.specs.Fraction.{Fraction}
 use Rattle.page_model.specs.Progress.{progress_of}
-use Rattle.time_values.specs.Examples.{at_rate, animation, paused, fraction, Is}
+use Rattle.time_values.specs.Examples.{at_rate, over_1001, animation, paused, fraction, Is}
 
 -- the progress in a frame at a rate
 abbrev progress_at : ℕ → ℕ → Anim → Option Fraction
@@ -48,3 +48,16 @@ pub record PausedValues : Type 0 where
   pub in_the_middle : Is (progress_at 10 2 (paused (animation 1000 (neg_ℤ (pos 125)) (Times 1500) Alternate Backwards))) (fraction 1 8)
   pub behind_the_end : Is (progress_at 7 14 (paused (animation 1 (neg_ℤ (pos 125)) (Times 1) Alternate Both))) (fraction 1 1000)
   pub before_the_start : progress_at 60 2 (paused (animation 100 (pos 250) (Times 20000) Normal Forwards)) ≡ None
+
+-- the progress in a frame at a rate over 1,001
+abbrev progress_over_1001 : ℕ → ℕ → Anim → Option Fraction
+progress_over_1001 num frame anim = progress_of (over_1001 num) anim frame
+
+-- at a rate over 1,001: up to the end, right at it, behind it, and in a frame that is far on
+pub record VideoValues : Type 0 where
+  pub end_of_the_delay : Is (progress_over_1001 60000 60 (animation 1001 (pos 1001) (Times 1500) Alternate Forwards)) (fraction 0 1)
+  pub reversed : Is (progress_over_1001 60000 14 (animation 250 (neg_ℤ (pos 125)) (Times 1500) AlternateReverse Both)) (fraction 3257 7500)
+  pub next_frame : Is (progress_over_1001 24000 1 (animation 997 (pos 0) (Times 1500) Normal Both)) (fraction 1001 23928)
+  pub far_on : Is (progress_over_1001 60000 2084556602 (animation 1001 (pos 1001) Infinite Alternate Backwards)) (fraction 29 30)
+  pub behind_the_end : Is (progress_over_1001 60060 2 (animation 1001 (pos 0) (Times 1) Alternate Forwards)) (fraction 1 1000)
+  pub without_duration : Is (progress_over_1001 60000 3250815977 (animation 0 (neg_ℤ (pos 125)) (Times 1500) Normal Forwards)) (fraction 1 2)

@@ -18,10 +18,12 @@ mod progress_values;
 mod slot_values;
 
 pub use easing_values::{curve_points, steps_at_both_or_neither, steps_at_one_side};
-pub use horizon_values::{period_values, settled_values};
+pub use horizon_values::{period_values, settled_values, video_horizons};
 pub use keyframe_values::{
     interval_relation_agrees, last_reached, missing_ends, wrong_keyframes_break,
 };
 pub use phase_laws::{phase_boundaries, wrong_phase_breaks};
-pub use progress_values::{progress_active, progress_after, progress_before, progress_paused};
+pub use progress_values::{
+    progress_active, progress_after, progress_before, progress_over_1001, progress_paused,
+};
 pub use slot_values::{halves_go_up, held_in_range, other_slot_values};

@@ -1,5 +1,5 @@
 // The progress of animations, as another implementation gives it.
-ghost use Rattle.time_values.specs.ProgressValues.{BeforeValues, ActiveValues, AfterValues, PausedValues};
+ghost use Rattle.time_values.specs.ProgressValues.{BeforeValues, ActiveValues, AfterValues, PausedValues, VideoValues};
 
 /// Before the delay is over: no effect without a fill that says so, else the start of the first iteration. It refuses
 /// a definition by which `forwards` fills before the start, and one by which a reversed animation waits at 0.
@@ -23,4 +23,9 @@ pub fn progress_after()
 /// effect, or always stands at its start.
 pub fn progress_paused()
     ensures { PausedValues }
+{}
+
+/// At the rates of video. It refuses a definition that takes the number of frames in 1,001 seconds for that in one.
+pub fn progress_over_1001()
+    ensures { VideoValues }
 {}

@@ -12,6 +12,7 @@ use Rattle.page_model.specs.Colour.{Run, IsRunIn, blended, body_colour, colour_o
 use Rattle.page_model.specs.LayerAt.{Course, IsStateAt, IsValueOn, State, alpha_of, blue_of, green_of, moving, red_of, still}
 use Rattle.page_model.specs.Red.{white}
 use Rattle.page_model.specs.Slot.{Slot, alpha, channel}
+use Rattle.page_model.specs.Time.{window_of}
 use Rattle.page_model.specs.ValidScene.{IsColour}
 use Rattle.wide_laws.specs.PaintLaws.{BlendEnds, BlendGrows, PixelIsColour}
 
@@ -84,7 +85,7 @@ fold-colour states column row start (box ∷ rest) small below =
 
 run-small :
     (scene : Scene) (setup : Setup) (start : ℕ) (run : Run) (frame number : ℕ) → IsRunIn scene setup start run → start ≤ frame
-    → frame ≤ start + setup.rate → number < length scene.layers → IsSmall (run frame number)
+    → frame ≤ start + window_of setup → number < length scene.layers → IsSmall (run frame number)
 run-small scene setup start run frame number exact low high within =
     elim (slice_get_cases scene.layers number).1 [
       | inl there ↦ state-small scene setup frame there.0 (run frame number) (exact frame number there.0 low high there.2)

@@ -5,7 +5,7 @@ ghost use Rattle.witness_checks.specs.Faults.{condition_of};
 /// Why a witness isn't accepted: the first condition that fails. Parts are numbered from 0, turns from 0, and pixels are those of the viewport.
 #[derive(Clone, Copy, Debug, PartialEq, Eq)]
 pub enum WitnessFault {
-    /// Width, height or rate isn't the setup's.
+    /// Width, height or a part of the rate isn't the setup's.
     OtherSetup,
     /// A part is empty, or doesn't lie wholly in the viewport and the rectangle.
     PartOutside {

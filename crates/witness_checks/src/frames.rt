@@ -26,8 +26,8 @@ fn rises(part: &Part) -> bool
 fn lies_in_window(setup: &Setup, witness: &Witness, part: &Part) -> bool
     ensures { IsTrue result ↔ LiesInWindow setup.now witness.now part.now }
 {
-    let rate = setup.rate();
-    let last = u64::from(witness.start) + u64::from(rate);
+    let window = setup.rate();
+    let last = u64::from(witness.start) + u64::from(window);
     for turn in 0..TURNS {
         if part.frames[turn] < witness.start || last < u64::from(part.frames[turn]) {
             return false;

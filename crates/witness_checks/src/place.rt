@@ -15,14 +15,16 @@ const WIDTH: u16 = 341;
 /// The height of the rectangle, in pixels.
 const HEIGHT: u16 = 256;
 
-/// Whether width, height and rate are those of the setup.
+/// Whether width, height and both parts of the rate are those of the setup.
 fn has_setup(setup: &Setup, witness: &Witness) -> bool
     ensures { IsTrue result ↔ HasSetup setup.now witness.now }
 {
     let width = setup.width();
     let height = setup.height();
-    let rate = setup.rate();
-    witness.width == width && witness.height == height && witness.rate == rate
+    let num = setup.num();
+    let den = setup.den();
+    let same_size = witness.width == width && witness.height == height;
+    same_size && witness.rate == num && witness.per == den
 }
 
 /// Whether there are places from a start on that all lie below a limit, and among so many from a position on.

@@ -15,10 +15,10 @@ abbrev band : ℕ → Part
 band width = record { x = 0; y = 0; width = width; height = 256; kind = General; frames = []; tints = [] }
 
 abbrev told : List Part → Witness
-told parts = record { width = 341; height = 256; rate = 60; start = 0; x = pos 0; y = pos 0; area = 0; parts = parts }
+told parts = record { width = 341; height = 256; rate = 60; per = 1; start = 0; x = pos 0; y = pos 0; area = 0; parts = parts }
 
 abbrev viewport : Setup
-viewport = record { width = 341; height = 256; rate = 60 }
+viewport = record { width = 341; height = 256; num = 60; den = 1 }
 
 inside : (parts : List Part) → LiesInside viewport (told parts) (band 341)
 inside parts = record {

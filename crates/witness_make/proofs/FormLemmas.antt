@@ -1,5 +1,5 @@
 -- What is made is in form: its numbers fit their types, and each of its tints is one colour.
-use Rattle.std.proofs.Common.{◌≡◌, ◌∙◌, ℕ, ◌+◌, ◌<◌, ◌≤◌, FitsSigned, length, get_or, ap, arith, subst, sym}
+use Rattle.std.proofs.Common.{◌≡◌, ◌∙◌, ℕ, ◌+◌, ◌<◌, ◌≤◌, FitsSigned, length, get_or, ap, arith, inl, inr, subst, sym}
 use Rattle.std.specs.Prelude.{All, ℤ, pos, negsuc, ◌≤ℤ◌, sum_by}
 use Rattle.std.specs.Int.{w32}
 use Rattle.std.proofs.lemmas.Int.{ints}
@@ -14,6 +14,7 @@ use Rattle.page_model.specs.Cells.{cells_between}
 use Rattle.page_model.specs.Change.{IsSingle}
 use Rattle.page_model.specs.Time.{window_of}
 use Rattle.page_model.specs.ValidScene.{IsColour}
+use Rattle.page_model.specs.Viewing.{IsRate}
 use Rattle.page_model.specs.WitnessConditions.{HasSetup}
 use Rattle.region_split.specs.declared.types.Rect.{Rect}
 use Rattle.region_split.specs.Cutting.{Edges, cell_of}
@@ -23,7 +24,7 @@ use Rattle.witness_make.proofs.MadeLemmas.{AreMadeOf, all-parts, area-fits, lies
 use Rattle.witness_make.proofs.TurnLemmas.{frames-within, place-within}
 use Rattle.witness_make.specs.Made.{AreCutsOf, IsPartOf}
 use Rattle.witness_make.specs.Turns.{no_tint}
-use Rattle.witness_text.specs.WitnessForm.{IsInForm, IsPartInForm, IsTintInForm, word_limit}
+use Rattle.witness_text.specs.WitnessForm.{IsInForm, IsPartInForm, IsTintInForm, IsToldRate, word_limit}
 
 -- a tint of one colour is in form
 single-form : (tint : Tint) → IsSingle tint → IsColour tint.hi → IsTintInForm tint
@@ -103,9 +104,20 @@ signed-least z fits = omega (arith, ints)
 pub signed-greatest : (z : ℤ) → FitsSigned w32 z → z ≤ℤ pos 2147483647
 signed-greatest z fits = omega (arith, ints)
 
+-- the rate of a setup is one that a witness tells
+told-rate : (num den rate per : ℕ) → IsRate num den → rate ≡ num → per ≡ den → (rate < word_limit) × IsToldRate rate per
+told-rate num den rate per (inl whole) e f =
+    let one = whole.0 in
+    let limit = whole.2 in
+    (omega arith, inl (omega arith, omega arith))
+told-rate num den rate per (inr over) e f =
+    let over_1001 = over.0 in
+    let limit = over.2 in
+    (omega arith, inr (omega arith))
+
 pub form-is : (scene : Scene) (setup : Setup) (edges : Edges) (w : Witness) → AreMadeOf scene setup edges w.start w.x w.y w.parts
-    → HasSetup setup w → w.area ≡ sum_by size_of w.parts → setup.rate ≤ 240 → FitsSigned w32 w.x → FitsSigned w32 w.y → IsInForm w
-form-is scene setup edges w made same area_is slow x_fits y_fits =
+    → HasSetup setup w → w.area ≡ sum_by size_of w.parts → IsRate setup.num setup.den → FitsSigned w32 w.x → FitsSigned w32 w.y → IsInForm w
+form-is scene setup edges w made same area_is is_rate x_fits y_fits =
     let cuts = made.cuts in
     let cover = cuts.cover in
     let few = cuts.few in
@@ -115,11 +127,12 @@ form-is scene setup edges w made same area_is slow x_fits y_fits =
     let fits = area-fits scene setup edges w.start w.x w.y w.parts made.valid cuts made.parts_are in
     let width_is = same.width in
     let height_is = same.height in
-    let rate_is = same.rate in
+    let told = told-rate setup.num setup.den w.rate w.per is_rate same.rate same.per in
     record {
       width = omega (arith, width_is, wide);
       height = omega (arith, height_is, high);
-      rate = omega (arith, rate_is, slow);
+      rate = told.0;
+      told = told.1;
       start = omega (arith, cover, few);
       area = omega (arith, area_is, fits);
       x_least = signed-least w.x x_fits;

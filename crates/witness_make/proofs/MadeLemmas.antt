@@ -286,6 +286,7 @@ with_parts start x y parts = record {
   width = 0;
   height = 0;
   rate = 0;
+  per = 1;
   start = start;
   x = x;
   y = y;
@@ -306,19 +307,19 @@ area-fits scene setup edges start x y parts valid cuts are =
     omega (arith, most, rows, wide, counted)
 
 -- the witness, field by field
-pub made-as : (scene : Scene) (setup : Setup) (edges : Edges) (start : ℕ) (x y told_x told_y : ℤ) (width height rate area : ℕ) (parts told : List Part)
+pub made-as : (scene : Scene) (setup : Setup) (edges : Edges) (start : ℕ) (x y told_x told_y : ℤ) (width height rate per area : ℕ) (parts told : List Part)
     → IsValid scene → AreCutsOf scene setup start edges → AreParts scene setup edges start x y parts → told ≡ parts
-    → width ≡ setup.width → height ≡ setup.height → rate ≡ setup.rate → area ≡ sum_by size_of parts → IsSurelyBad own scene setup start x y
-    → IsInForm (record { width = width; height = height; rate = rate; start = start; x = x; y = y; area = area; parts = parts })
+    → width ≡ setup.width → height ≡ setup.height → rate ≡ setup.num → per ≡ setup.den → area ≡ sum_by size_of parts → IsSurelyBad own scene setup start x y
+    → IsInForm (record { width = width; height = height; rate = rate; per = per; start = start; x = x; y = y; area = area; parts = parts })
     → told_x ≡ x → told_y ≡ y
     → IsMade scene setup edges start x y
-    (record { width = width; height = height; rate = rate; start = start; x = told_x; y = told_y; area = area; parts = told })
-made-as scene setup edges start x y told_x told_y width height rate area parts told valid cuts are told_is width_is height_is rate_is area_is bad form x_is y_is =
+    (record { width = width; height = height; rate = rate; per = per; start = start; x = told_x; y = told_y; area = area; parts = told })
+made-as scene setup edges start x y told_x told_y width height rate per area parts told valid cuts are told_is width_is height_is rate_is per_is area_is bad form x_is y_is =
     let w : ℤ → ℤ → List Part → Witness = λ a b ps.
-    record { width = width; height = height; rate = rate; start = start; x = a; y = b; area = area; parts = ps } in
+    record { width = width; height = height; rate = rate; per = per; start = start; x = a; y = b; area = area; parts = ps } in
     let here : IsMade scene setup edges start x y (w x y parts) =
     made-is scene setup edges (w x y parts) (record { valid = valid; cuts = cuts; parts_are = are })
-    (record { width = width_is; height = height_is; rate = rate_is }) area_is bad form in
+    (record { width = width_is; height = height_is; rate = rate_is; per = per_is }) area_is bad form in
     subst (λ a. IsMade scene setup edges start x y (w a told_y told)) (sym x_is)
     (subst (λ b. IsMade scene setup edges start x y (w x b told)) (sym y_is)
     (subst (λ (ps : List Part). IsMade scene setup edges start x y (w x y ps)) (sym told_is) here))

@@ -3,6 +3,7 @@ ghost use Rattle.std.specs.Prelude.{◌≡◌, false, ◌+◌, ◌*◌, ◌^◌,
 ghost use Rattle.page_model.specs.declared.witness.Part.{Part};
 ghost use Rattle.page_model.specs.Cells.{cells_between};
 ghost use Rattle.page_model.specs.Enclosure.{own};
+ghost use Rattle.page_model.specs.Time.{window_of};
 ghost use Rattle.page_model.specs.ValidScene.{IsValid};
 ghost use Rattle.page_model.specs.Window.{IsSurelyBad};
 ghost use Rattle.frame_state.specs.Scenes.{CanBePainted, is_coloured};
@@ -29,7 +30,7 @@ fn add_part(
     requires grey { is_coloured scene.now ≡ false }
     requires cut { AreCutsOf scene.now setup.now bad.start cuts.now }
     requires known { number < cells_between cuts.now.xs cuts.now.ys }
-    requires seen { AreTintsOfCells scene.now setup.now cuts.now bad.start (setup.now.rate + 1) tints.now }
+    requires seen { AreTintsOfCells scene.now setup.now cuts.now bad.start (window_of setup.now + 1) tints.now }
     requires before { ArePartsBefore scene.now setup.now cuts.now bad.start bad.x bad.y number parts.old.items }
     ensures { OnOk result (ArePartsBefore scene.now setup.now cuts.now bad.start bad.x bad.y (number + 1) parts.new.items) }
 {
@@ -54,7 +55,7 @@ fn parts_by(
     requires valid { IsValid scene.now }
     requires grey { is_coloured scene.now ≡ false }
     requires cut { AreCutsOf scene.now setup.now bad.start cuts.now }
-    requires seen { AreTintsOfCells scene.now setup.now cuts.now bad.start (setup.now.rate + 1) tints.now }
+    requires seen { AreTintsOfCells scene.now setup.now cuts.now bad.start (window_of setup.now + 1) tints.now }
     ensures { IfOk result (λ parts. AreParts scene.now setup.now cuts.now bad.start bad.x bad.y parts.items) }
 {
     let mut parts = Vec::new(alloc);
@@ -121,7 +122,8 @@ pub fn make(
     Ok(Witness {
         width: setup.width(),
         height: setup.height(),
-        rate: setup.rate(),
+        rate: setup.num(),
+        per: setup.den(),
         start: bad.start,
         x: bad.x,
         y: bad.y,

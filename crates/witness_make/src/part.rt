@@ -1,6 +1,7 @@
 // The part of one cell.
 ghost use Rattle.std.specs.Prelude.{◌≡◌, false, ◌+◌, ◌<◌};
 ghost use Rattle.page_model.specs.Cells.{cells_between};
+ghost use Rattle.page_model.specs.Time.{window_of};
 ghost use Rattle.page_model.specs.ValidScene.{IsValid};
 ghost use Rattle.frame_state.specs.Scenes.{is_coloured};
 ghost use Rattle.region_split.specs.Cutting.{cell_of};
@@ -13,7 +14,7 @@ use flash_count::chain;
 use page_model::{BadWindow, Part, Scene, Setup, Tint};
 use region_split::Cuts;
 
-/// The most tints that a window holds: one more than the greatest rate.
+/// The most tints that a window holds.
 const MOST: usize = 241;
 
 /// The part of a cell, where it is surely flagged and meets the rectangle. The tints are those of all cells in the frames of the
@@ -30,7 +31,7 @@ pub(crate) fn part_of(
     requires grey { is_coloured scene.now ≡ false }
     requires cut { AreCutsOf scene.now setup.now bad.start cuts.now }
     requires known { number < cells_between cuts.now.xs cuts.now.ys }
-    requires seen { AreTintsOfCells scene.now setup.now cuts.now bad.start (setup.now.rate + 1) tints.now }
+    requires seen { AreTintsOfCells scene.now setup.now cuts.now bad.start (window_of setup.now + 1) tints.now }
     ensures { IsPartIn scene.now setup.now bad.start bad.x bad.y (cell_of cuts.now.xs cuts.now.ys number) result }
 {
     let _scene = scene;

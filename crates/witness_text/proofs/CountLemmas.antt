@@ -17,8 +17,9 @@ use Rattle.serde_json.specs.View.{items_of}
 use Rattle.page_model.specs.declared.witness.Part.{Part}
 use Rattle.page_model.specs.declared.witness.Witness.{Witness}
 use Rattle.witness_text.specs.PartValue.{part_value}
-use Rattle.witness_text.specs.WitnessText.{witness_value}
+use Rattle.witness_text.specs.WitnessText.{value_of_first, value_of_second, witness_value}
 use Rattle.witness_text.specs.WitnessForm.{IsTextOf}
+use Rattle.witness_text.proofs.Shape.{in_each_version}
 
 -- ---- how many values there are in a value
 
@@ -265,9 +266,16 @@ parts-count : (parts : List Part) → length parts ≤ items_count (items_of (ma
 parts-count [] = omega arith
 parts-count (p ∷ parts) = omega (arith, part-counts p, parts-count parts)
 
+first-counts : (w : Witness) → length w.parts < count (value_of_first w)
+unfolding value_of_first
+first-counts w = omega (arith, parts-count w.parts)
+
+second-counts : (w : Witness) → length w.parts < count (value_of_second w)
+unfolding value_of_second
+second-counts w = omega (arith, parts-count w.parts)
+
 witness-counts : (w : Witness) → length w.parts < count (witness_value w)
-unfolding witness_value
-witness-counts w = omega (arith, parts-count w.parts)
+witness-counts w = in_each_version (λ d. length w.parts < count d) w (first-counts w) (second-counts w)
 
 pub parts_few : (bytes : List ℕ) (w : Witness) → IsTextOf bytes w → length w.parts ≤ length bytes
 parts_few bytes w text =

@@ -1,5 +1,5 @@
 -- Whatever is looked at, what is found is in form.
-use Rattle.std.proofs.Common.{◌≡◌, codes, length, nat_lt, ℕ, ◌+◌, ◌<◌, max, true, ℤ, pos, negsuc, ◌≤ℤ◌, int_le, List, [], ◌∷◌, All, map, Option, refl, arith, inl, inr}
+use Rattle.std.proofs.Common.{◌≡◌, ◌==◌, codes, length, nat_lt, ℕ, ◌+◌, ◌<◌, max, true, ℤ, pos, negsuc, ◌≤ℤ◌, int_le, List, [], ◌∷◌, All, map, Option, refl, arith, inl, inr}
 use Rattle.std.proofs.lemmas.Bool.{cases_Bool}
 use Rattle.std.proofs.lemmas.Bool.Decides.{nat_tests}
 use Rattle.std.proofs.lemmas.Int.{ints}
@@ -7,8 +7,8 @@ use Rattle.std.proofs.lemmas.List.Elements.{All-nil, All-cons}
 use Rattle.serde_json.specs.Data.{Data}
 use Rattle.serde_json.specs.Find.{get}
 use Rattle.page_model.specs.declared.colour.Tint.{Tint}
-use Rattle.witness_text.specs.WitnessForm.{short_limit, word_limit, AreOrderedBytes, IsTintInForm, IsPartInForm, IsInForm}
-use Rattle.witness_text.specs.Look.{natural_in, below, short_in, word_in, integer_in, signed, signed_in, byte_at, digit_value, channel_at, colour_at, tint_at, text_in, tint_in, item_in, nine_of, part_in, list_in, witness_in}
+use Rattle.witness_text.specs.WitnessForm.{short_limit, word_limit, AreOrderedBytes, IsTintInForm, IsPartInForm, IsToldRate, IsInForm}
+use Rattle.witness_text.specs.Look.{natural_in, below, short_in, word_in, integer_in, signed, signed_in, per_in, rate_in, byte_at, digit_value, channel_at, colour_at, tint_at, text_in, tint_in, item_in, nine_of, part_in, list_in, witness_in}
 
 below-fits : (limit n : ℕ) → 0 < limit → below limit n < limit
 below-fits limit n some = grind (arith, nat_tests)
@@ -91,12 +91,33 @@ all-parts : (ds : List Data) → All IsPartInForm (map part_in ds)
 all-parts [] = All-nil IsPartInForm
 all-parts (d ∷ ds) = All-cons IsPartInForm (part_in d) (map part_in ds) (part-form d) (all-parts ds)
 
+-- the rate is one that a version tells
+rate-fits : (per : ℕ) (o : Option Data) → rate_in per o < word_limit
+unfolding rate_in
+rate-fits per o = elim (cases_Bool (per == 1)) [
+  | inl whole ↦ rw whole (omega (arith, short-fits o))
+  | inr over ↦ rw over (word-fits o)
+]
+
+told-rate : (p o : Option Data) → IsToldRate (rate_in (per_in p) o) (per_in p)
+unfolding rate_in per_in
+told-rate p o = elim (cases_Bool (natural_in p == 1001)) [
+  | inl over ↦ rw over (inr refl)
+  | inr whole ↦ rw whole (inl (refl, short-fits o))
+]
+
+pub told-found : (rate per : ℕ) (p o : Option Data) → per ≡ per_in p → rate ≡ rate_in per o → IsToldRate rate per
+told-found rate per p o e f =
+    let same : rate ≡ rate_in (per_in p) o = cc in
+    rw (same, e) (told-rate p o)
+
 pub witness-form : (d : Data) → IsInForm (witness_in d)
 unfolding witness_in
 witness-form d = record {
   width = short-fits (get (codes "width") d);
   height = short-fits (get (codes "height") d);
-  rate = short-fits (get (codes "rate") d);
+  rate = rate-fits (per_in (get (codes "per") d)) (get (codes "rate") d);
+  told = told-rate (get (codes "per") d) (get (codes "rate") d);
   start = word-fits (get (codes "start") d);
   area = word-fits (get (codes "area") d);
   x_least = (signed_in-fits (get (codes "x") d)).0;

@@ -1,5 +1,5 @@
 -- What a look finds: in the object of a witness in form that witness, and anywhere a witness in form.
-use Rattle.std.proofs.Common.{◌≡◌, int_le, nat_lt, ◌^◌, ◌++◌, ℕ, ◌+◌, ◌*◌, ◌/◌, ◌%◌, ◌<◌, ◌≤◌, max, Bool, true, false, ℤ, pos, negsuc, ◌≤ℤ◌, List, [], ◌∷◌, All, map, length, Option, Some, refl, ap, ◌∙◌, arith}
+use Rattle.std.proofs.Common.{◌≡◌, int_le, nat_lt, ◌^◌, ◌++◌, ℕ, ◌+◌, ◌*◌, ◌/◌, ◌%◌, ◌<◌, ◌≤◌, max, Bool, true, false, ℤ, pos, negsuc, ◌≤ℤ◌, List, [], ◌∷◌, All, map, length, Option, Some, refl, ap, sym, ◌∙◌, inl, inr, arith, eq-eqb}
 use Rattle.std.proofs.lemmas.Bool.Decides.{nat_tests}
 use Rattle.std.proofs.lemmas.Int.{ints}
 use Rattle.std.proofs.lemmas.List.Elements.{All-nil, All-cons, All-head, All-tail}
@@ -13,9 +13,9 @@ use Rattle.page_model.specs.declared.witness.Part.{Part}
 use Rattle.page_model.specs.declared.witness.Witness.{Witness}
 use Rattle.witness_text.specs.TintText.{hex_digit, colour_text, is_single, tint_text}
 use Rattle.witness_text.specs.PartValue.{natural, tint_value, kind_text, part_value}
-use Rattle.witness_text.specs.WitnessText.{integer, witness_value}
+use Rattle.witness_text.specs.WitnessText.{integer, value_of_first, value_of_second, witness_value}
 use Rattle.witness_text.specs.WitnessForm.{short_limit, word_limit, IsTintInForm, IsPartInForm, IsInForm}
-use Rattle.witness_text.specs.Look.{natural_in, below, short_in, word_in, integer_in, signed, signed_in, text_in, kind_in, digit_value, channel_at, colour_at, above, tint_at, tint_in, list_of, list_in, nine_of, part_in, witness_in}
+use Rattle.witness_text.specs.Look.{natural_in, below, short_in, word_in, integer_in, signed, signed_in, per_in, rate_in, text_in, kind_in, digit_value, channel_at, colour_at, above, tint_at, tint_in, list_of, list_in, nine_of, part_in, witness_in}
 
 pub list_of_items : (ds : List Data) → list_of (items_of ds) ≡ ds
 list_of_items [] = refl
@@ -181,15 +181,55 @@ parts-again parts form =
     ap (map part_in) (list_of_items (map part_value parts))
     ∙ map-again part_value part_in parts (all-by IsPartInForm (λ p. part_in (part_value p) ≡ p) part-again parts form)
 
-pub witness-again : (w : Witness) → IsInForm w → witness_in (witness_value w) ≡ w
-unfolding witness_in witness_value
-witness-again w form =
+-- of the first version
+first-again : (w : Witness) → IsInForm w → w.per ≡ 1 → w.rate < short_limit → witness_in (value_of_first w) ≡ w
+unfolding witness_in value_of_first per_in rate_in natural_in
+first-again w form is few =
     let width = short-again w.width form.width in
     let height = short-again w.height form.height in
-    let rate = short-again w.rate form.rate in
+    let rate = short-again w.rate few in
+    let per = sym is in
     let start = word-again w.start form.start in
     let x = signed-again w.x form.x_least form.x_greatest in
     let y = signed-again w.y form.y_least form.y_greatest in
     let area = word-again w.area form.area in
     let parts = parts-again w.parts form.parts in
-    λ i. record { width = width i; height = height i; rate = rate i; start = start i; x = x i; y = y i; area = area i; parts = parts i }
+    λ i. record { width = width i; height = height i; rate = rate i; per = per i; start = start i; x = x i; y = y i; area = area i; parts = parts i }
+
+-- of the second
+over-again : (per : ℕ) → per ≡ 1001 → per_in (Some (natural per)) ≡ per
+unfolding per_in natural_in
+over-again per is = rw is refl
+
+over-rate : (per n : ℕ) → per ≡ 1001 → n < word_limit → rate_in (per_in (Some (natural per))) (Some (natural n)) ≡ n
+unfolding per_in rate_in natural_in
+over-rate per n is less = rw is (word-again n less)
+
+second-again : (w : Witness) → IsInForm w → w.per ≡ 1001 → witness_in (value_of_second w) ≡ w
+unfolding witness_in value_of_second
+second-again w form is =
+    let width = short-again w.width form.width in
+    let height = short-again w.height form.height in
+    let rate = over-rate w.per w.rate is form.rate in
+    let per = over-again w.per is in
+    let start = word-again w.start form.start in
+    let x = signed-again w.x form.x_least form.x_greatest in
+    let y = signed-again w.y form.y_least form.y_greatest in
+    let area = word-again w.area form.area in
+    let parts = parts-again w.parts form.parts in
+    λ i. record { width = width i; height = height i; rate = rate i; per = per i; start = start i; x = x i; y = y i; area = area i; parts = parts i }
+
+first-value : (w : Witness) → w.per ≡ 1 → witness_value w ≡ value_of_first w
+unfolding witness_value
+first-value w is = rw (eq-eqb w.per 1 is) refl
+
+second-value : (w : Witness) → w.per ≡ 1001 → witness_value w ≡ value_of_second w
+unfolding witness_value
+second-value w is = rw is refl
+
+pub witness-again : (w : Witness) → IsInForm w → witness_in (witness_value w) ≡ w
+witness-again w form =
+    elim form.told [
+      | inl first ↦ ap witness_in (first-value w first.0) ∙ first-again w form first.0 first.1
+      | inr second ↦ ap witness_in (second-value w second) ∙ second-again w form second
+    ]

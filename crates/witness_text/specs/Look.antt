@@ -27,6 +27,14 @@ short_in o = below short_limit (natural_in o)
 unfoldable pub word_in : Option Data → ℕ
 word_in o = below word_limit (natural_in o)
 
+-- the seconds of a rate: 1,001 where they are told, else 1
+unfoldable pub per_in : Option Data → ℕ
+per_in o = if natural_in o == 1001 then 1001 else 1
+
+-- the frames in so many seconds
+unfoldable pub rate_in : ℕ → Option Data → ℕ
+rate_in per o = if per == 1 then short_in o else word_in o
+
 -- a whole number of either sign
 unfoldable pub integer_in : Option Data → ℤ
 integer_in o = unwrap_or (option_and_then as_i64 (option_and_then as_number o)) (pos 0)
@@ -114,7 +122,8 @@ unfoldable pub witness_in : Data → Witness
 witness_in d = record {
   width = short_in (get (codes "width") d);
   height = short_in (get (codes "height") d);
-  rate = short_in (get (codes "rate") d);
+  rate = rate_in (per_in (get (codes "per") d)) (get (codes "rate") d);
+  per = per_in (get (codes "per") d);
   start = word_in (get (codes "start") d);
   x = signed_in (get (codes "x") d);
   y = signed_in (get (codes "y") d);

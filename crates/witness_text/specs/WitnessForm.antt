@@ -1,6 +1,6 @@
 -- Which bytes are the text of a witness: those that read, by `serde_json`'s reading, as the object of a witness whose numbers fit
 -- their types, with nine frames and nine tints in each part, and in each tint a first colour that is at most the second.
-use Rattle.std.specs.Prelude.{ℕ, ◌≡◌, ◌<◌, ◌≤◌, ◌≤ℤ◌, pos, negsuc, List, Some, All, IsUtf8}
+use Rattle.std.specs.Prelude.{ℕ, ◌≡◌, ◌⊎◌, ◌<◌, ◌≤◌, ◌≤ℤ◌, pos, negsuc, List, Some, All, IsUtf8}
 use Rattle.serde_json.specs.Read.{read}
 use Rattle.page_model.specs.declared.colour.Tint.{Tint}
 use Rattle.page_model.specs.declared.witness.Part.{Part}
@@ -14,6 +14,10 @@ short_limit = 65536
 
 abbrev pub word_limit : ℕ
 word_limit = 4294967296
+
+-- a version tells the rate: one that is whole and below 65,536, or one over 1,001
+abbrev pub IsToldRate : ℕ → ℕ → Type 0
+IsToldRate rate per = ((per ≡ 1) × (rate < short_limit)) ⊎ (per ≡ 1001)
 
 -- a first number that is at most a second one, and both are bytes
 pub record AreOrderedBytes (lo hi : ℕ) : Type 0 where
@@ -38,7 +42,8 @@ pub record IsPartInForm (part : Part) : Type 0 where
 pub record IsInForm (w : Witness) : Type 0 where
   pub width : w.width < short_limit
   pub height : w.height < short_limit
-  pub rate : w.rate < short_limit
+  pub rate : w.rate < word_limit
+  pub told : IsToldRate w.rate w.per
   pub start : w.start < word_limit
   pub area : w.area < word_limit
   pub x_least : negsuc 2147483647 ≤ℤ w.x

@@ -2,23 +2,30 @@
 // whether the value is the object of what was found, is told by comparing texts.
 ghost use Rattle.std.specs.Prelude.{◌≡◌, ◌<◌, map, option_map, IfOk};
 ghost use Rattle.serde_json.specs.View.{view};
-ghost use Rattle.witness_text.specs.Look.{natural_in, integer_in, short_in, word_in, signed_in, text_in, kind_in, list_in, item_in, nine_of, tint_in, part_in, witness_in};
+ghost use Rattle.witness_text.specs.Look.{natural_in, integer_in, short_in, word_in, signed_in, per_in, rate_in, text_in, kind_in, list_in, item_in, nine_of, tint_in, part_in, witness_in};
+ghost use Rattle.witness_text.specs.WitnessForm.{IsToldRate};
 
 use crate::digits::tint_of_text;
 use page_model::{Kind, List, NoMemory, Part, Tint, Witness};
 use serde_json::Value;
 use std::alloc::Global;
 
+/// The seconds of a rate that isn't whole.
+const PER: u32 = 1001;
+
 /// The witness that is found in an object.
 #[tactic(auto, unfolding(crate::specs::Look::witness_in))]
 pub fn witness_of(alloc: Global, value: &Value) -> Result<Witness, NoMemory>
-    ensures { IfOk result (λ w. w ≡ witness_in (view value.now)) }
+    ensures value { IfOk result (λ w. w ≡ witness_in (view value.now)) }
+    ensures told { IfOk result (λ w. IsToldRate w.rate w.per) }
 {
     let parts = parts_of(alloc, items_of(value.get("parts")))?;
+    let per = per_of(value.get("per"));
     Ok(Witness {
         width: short_of(value.get("width")),
         height: short_of(value.get("height")),
-        rate: short_of(value.get("rate")),
+        rate: rate_of(per, value.get("rate")),
+        per,
         start: word_of(value.get("start")),
         x: signed_of(value.get("x")),
         y: signed_of(value.get("y")),
@@ -155,6 +162,30 @@ fn word_of(value: Option<&Value>) -> u32
 {
     let n = natural_of(value);
     if n < 4_294_967_296 { n as u32 } else { 0 }
+}
+
+/// The seconds of a rate: 1,001 where they are told, else 1.
+#[tactic(auto, unfolding(crate::specs::Look::per_in))]
+fn per_of(value: Option<&Value>) -> u32
+    ensures { result ≡ per_in (option_map (λ v. view v.now) value.entry) }
+{
+    if natural_of(value) == u64::from(PER) {
+        PER
+    } else {
+        1
+    }
+}
+
+/// The frames in so many seconds.
+#[tactic(auto, unfolding(crate::specs::Look::rate_in))]
+fn rate_of(per: u32, value: Option<&Value>) -> u32
+    ensures { result ≡ rate_in per (option_map (λ v. view v.now) value.entry) }
+{
+    if per == 1 {
+        u32::from(short_of(value))
+    } else {
+        word_of(value)
+    }
 }
 
 /// A number of 32 bits and either sign.

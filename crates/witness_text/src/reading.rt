@@ -4,7 +4,7 @@ ghost use Rattle.serde_json.specs.Data.{depth};
 ghost use Rattle.serde_json.specs.Read.{read, max_depth};
 ghost use Rattle.serde_json.specs.View.{view};
 ghost use Rattle.page_model.specs.declared.witness.Witness.{Witness as SpecWitness};
-ghost use Rattle.witness_text.specs.WitnessForm.{IsTextOf};
+ghost use Rattle.witness_text.specs.WitnessForm.{IsTextOf, IsToldRate};
 ghost use Rattle.witness_text.specs.WitnessText.{witness_value};
 
 use crate::fault::TextFault;
@@ -54,7 +54,8 @@ fn value_of(alloc: Global, bytes: &[u8]) -> Result<Value, TextFault>
 /// Whether a value is the object of a witness: both have one text.
 #[tactic(auto, using(crate::proofs::ReadLemmas::one_text))]
 fn is_object_of(alloc: Global, value: &Value, witness: &Witness) -> Result<bool, NoMemory>
-    requires { depth (view value.now) ≤ max_depth }
+    requires nests { depth (view value.now) ≤ max_depth }
+    requires told { IsToldRate witness.now.rate witness.now.per }
     ensures same { IfOk result (λ b. IsTrue b → view value.now ≡ witness_value witness.now) }
     ensures other { IfOk result (λ b. view value.now ≡ witness_value witness.now → IsTrue b) }
 {

@@ -19,6 +19,8 @@ mod limits;
 #[cfg(test)]
 mod pages;
 #[cfg(test)]
+mod rate_rows;
+#[cfg(test)]
 mod running;
 #[cfg(test)]
 mod sheets;

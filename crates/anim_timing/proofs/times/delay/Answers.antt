@@ -9,7 +9,7 @@ pub returns-clause-range : goal.returns-clause-range
 returns-clause-range c =
     let n : ℕ = c.ticks.result in
     let d : ℤ = c.args.anim.now.delay in
-    let range : IsBetween (neg_ℤ (pos 24000000000)) (pos 24000000000) (pos n *ℤ d) = IsBetween-times n d (omega arith) c.requires.delay in
+    let range : IsBetween (neg_ℤ (pos 24000000000000)) (pos 24000000000000) (pos n *ℤ d) = IsBetween-times n d (omega arith) c.requires.delay in
     let small : FitsSigned w32 d = omega (arith, ints, c.requires.delay) in
     let wide : FitsSigned w64 d = omega (arith, ints, c.requires.delay) in
     let fits : FitsSigned w64 (pos n *ℤ d) = omega (arith, ints, range) in

@@ -1,6 +1,7 @@
 -- One cell more, and all of them.
 use Rattle.std.proofs.Common.{◌≡◌, ◌+◌, arith, rules, subst}
 use Rattle.page_model.specs.Horizon.{frames_for}
+use Rattle.page_model.specs.Time.{window_of}
 use Rattle.cell_tints.specs.Tints.{AreTintsOfCells}
 use Rattle.cell_flags.specs.Flags.{AreFlagsBefore}
 use Rattle.cell_flags.proofs.FlagLemmas.{flags-are}
@@ -22,6 +23,6 @@ returns c =
     omega (arith, c.from.ensures, c.rate-rate.ensures.value) in
     let every = subst (λ n. AreFlagsBefore tints c.cells-cells.result c.rate-rate.result c.args.windows n flags) all c.loop-cell.invariant in
     let by_rate = subst (λ n. AreFlagsBefore tints c.cells-cells.result n c.args.windows c.cells-cells.result flags) c.rate-rate.ensures.value every in
-    let by_cells = subst (λ n. AreFlagsBefore tints n c.args.setup.now.rate c.args.windows n flags) c.cells-cells.ensures by_rate in
+    let by_cells = subst (λ n. AreFlagsBefore tints n (window_of c.args.setup.now) c.args.windows n flags) c.cells-cells.ensures by_rate in
     flags-are c.args.scene.now c.args.setup.now c.args.windows edges tints flags c.requires.valid c.requires.grey c.requires.cut
     (subst (λ n. AreTintsOfCells c.args.scene.now c.args.setup.now edges 0 n tints) frames c.in_ok-tints.ensures) by_cells

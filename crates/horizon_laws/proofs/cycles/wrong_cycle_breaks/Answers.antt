@@ -2,6 +2,7 @@
 use Rattle.std.proofs.Common.{◌≡◌, ℕ, refl, ap, arith}
 use Rattle.std.specs.Prelude.{Option, option_map, unwrap_or}
 use Rattle.page_model.specs.Fraction.{Fraction}
+use Rattle.page_model.specs.Time.{HasFrames}
 use Rattle.horizon_laws.specs.CycleLaws.{there_and_back}
 use Rattle.time_values.specs.Examples.{at_rate}
 use Rattle.horizon_laws.proofs.cycles.wrong_cycle_breaks.Goals as goal
@@ -15,6 +16,7 @@ returns c = record {
   there = refl;
   back = refl;
   breaks = λ repeats.
-      let same : 45000000 ≡ 15000000 = ap parts (repeats (at_rate 60) there_and_back 15 60 (omega arith) refl refl refl) in
+      let rate : HasFrames (at_rate 60) = record { some_num = omega arith; some_den = omega arith } in
+      let same : 45000 ≡ 15000 = ap parts (repeats (at_rate 60) there_and_back 15 60 rate refl refl refl) in
       omega arith;
 }

@@ -34,6 +34,6 @@ pub returns : goal.returns
 returns c setup turning other turns stays long term =
     let one = cycle-turning setup turning turns in
     let two = cycle-other setup other stays in
-    let both = twice setup.rate turning.duration other.duration long in
+    let both = twice setup.num turning.duration other.duration long in
     let same : cycle_of setup turning ≡ cycle_of setup other = cc in
     (term-carries setup turning other term same, term-carries setup other turning term (sym same))

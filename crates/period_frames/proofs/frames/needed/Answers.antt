@@ -10,7 +10,7 @@ returns-in_err-period-clause-many c =
     let setup = c.args.setup.now in
     let anims = all_animations c.args.scene.now in
     let long = rw (c.as_slice.ensures, c.in_err-period.was) at c.of_layers-all.ensures.period in
-    rw c.from_residual.ensures (more-by_period setup anims c.rate-rate.ensures.some long)
+    rw c.from_residual.ensures (more-by_period setup anims (record { some_num = c.num-num.ensures.some; some_den = c.den-den.ensures.some }) long)
 
 pub returns-then-saturating_add-gt-MOST-clause-many : goal.returns-then-saturating_add-gt-MOST-clause-many
 returns-then-saturating_add-gt-MOST-clause-many c =
@@ -28,4 +28,4 @@ returns-clause-for_ever c =
     let period = c.in_ok-period.period in
     let known = subst (λ layers. IsRepeat setup (animations_of layers) all) c.as_slice.ensures c.of_layers-all.ensures in
     let is = horizon-known setup (all_animations c.args.scene.now) all period known c.in_ok-period.was in
-    safe c.args.scene.now setup all.settled period c.rate-rate.ensures.some is
+    safe c.args.scene.now setup all.settled period (record { some_num = c.num-num.ensures.some; some_den = c.den-den.ensures.some }) is

@@ -21,11 +21,11 @@ returns c =
     c.area_of-area.ensures ∙ ap (λ (ps : List Part). sum_by size_of ps) c.as_slice.ensures.value in
     let x_fits : FitsSigned w32 c.args.bad.x = search rules in
     let y_fits : FitsSigned w32 c.args.bad.y = search rules in
-    let slow : c.args.setup.now.rate ≤ 240 = c.rate.ensures.limit in
     let w : Witness = record {
       width = c.width.result;
       height = c.height.result;
-      rate = c.rate.result;
+      rate = c.num.result;
+      per = c.den.result;
       start = c.args.bad.start;
       x = c.args.bad.x;
       y = c.args.bad.y;
@@ -34,7 +34,7 @@ returns c =
     } in
     let form = form-is c.args.scene.now c.args.setup.now c.args.cuts.now w
     (record { valid = c.requires.valid; cuts = c.requires.cut; parts_are = c.in_ok-parts.ensures })
-    (record { width = c.width.ensures.value; height = c.height.ensures.value; rate = c.rate.ensures.value }) count slow x_fits y_fits in
-    made-as c.args.scene.now c.args.setup.now c.args.cuts.now c.args.bad.start c.args.bad.x c.args.bad.y _ _ c.width.result c.height.result c.rate.result
-    c.area_of-area.result c.in_ok-parts.parts.items c.from_vec.result c.requires.valid c.requires.cut c.in_ok-parts.ensures c.from_vec.ensures
-    c.width.ensures.value c.height.ensures.value c.rate.ensures.value count c.requires.bad form (search rules) (search rules)
+    (record { width = c.width.ensures.value; height = c.height.ensures.value; rate = c.num.ensures.value; per = c.den.ensures.value }) count c.num.ensures.is_rate x_fits y_fits in
+    made-as c.args.scene.now c.args.setup.now c.args.cuts.now c.args.bad.start c.args.bad.x c.args.bad.y _ _ c.width.result c.height.result c.num.result
+    c.den.result c.area_of-area.result c.in_ok-parts.parts.items c.from_vec.result c.requires.valid c.requires.cut c.in_ok-parts.ensures c.from_vec.ensures
+    c.width.ensures.value c.height.ensures.value c.num.ensures.value c.den.ensures.value count c.requires.bad form (search rules) (search rules)

@@ -1,5 +1,6 @@
 -- The part of a cell, or why there is none.
 use Rattle.std.proofs.Common.{◌≡◌, ◌+◌, ◌≤◌, arith, length, rules, subst, sym}
+use Rattle.page_model.specs.Time.{window_of}
 use Rattle.region_split.specs.declared.types.Rect.{Rect}
 use Rattle.witness_make.specs.Clip.{IsCutTo, Misses}
 use Rattle.witness_make.proofs.MadeLemmas.{cell-fits, sides-of}
@@ -28,8 +29,8 @@ returns-in_default c =
 
 pub returns-in_default-chain : goal.returns-in_default-chain
 returns-in_default-chain c =
-    let whole : length c.see.new.tints ≡ c.args.setup.now.rate + 1 = search rules in
-    let are = picked-own c.args.scene.now c.args.setup.now c.args.cuts.now c.args.bad.start (c.args.setup.now.rate + 1) c.cells.result c.args.number
+    let whole : length c.see.new.tints ≡ window_of c.args.setup.now + 1 = search rules in
+    let are = picked-own c.args.scene.now c.args.setup.now c.args.cuts.now c.args.bad.start (window_of c.args.setup.now + 1) c.cells.result c.args.number
     c.args.tints.now c.see.new.tints c.requires.seen c.cells.ensures c.requires.known whole c.see.ensures.picked in
     λ column row flagged inside is.
     unflagged-seen c.args.scene.now c.args.setup.now c.args.cuts.now c.args.bad.start c.args.number column row c.see.new.tints c.requires.valid c.requires.grey
@@ -37,13 +38,13 @@ returns-in_default-chain c =
 
 pub told-requires-clause-places : goal.told-requires-clause-places
 told-requires-clause-places c =
-    let whole : length c.see.new.tints ≡ c.args.setup.now.rate + 1 = search rules in
+    let whole : length c.see.new.tints ≡ window_of c.args.setup.now + 1 = search rules in
     places-within c.see.new.tints c.in-Some-chain.trace (omega (arith, whole)) c.in-Some-chain.ensures
 
 pub returns : goal.returns
 returns c =
-    let whole : length c.see.new.tints ≡ c.args.setup.now.rate + 1 = search rules in
-    let are = picked-own c.args.scene.now c.args.setup.now c.args.cuts.now c.args.bad.start (c.args.setup.now.rate + 1) c.cells.result c.args.number
+    let whole : length c.see.new.tints ≡ window_of c.args.setup.now + 1 = search rules in
+    let are = picked-own c.args.scene.now c.args.setup.now c.args.cuts.now c.args.bad.start (window_of c.args.setup.now + 1) c.cells.result c.args.number
     c.args.tints.now c.see.new.tints c.requires.seen c.cells.ensures c.requires.known whole c.see.ensures.picked in
     let cut : IsCutTo c.args.bad.x c.args.bad.y c.cell.result c.in-Some.rect = search rules in
     part-told c.args.scene.now c.args.setup.now c.args.cuts.now c.args.bad.start c.args.number c.args.bad.x c.args.bad.y c.in-Some.rect c.see.new.tints
