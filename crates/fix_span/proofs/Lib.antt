@@ -1,2 +1,4 @@
 mod DivisorLemmas
+mod HoldsLemmas
 mod NestedLemmas
+mod ScaleLemmas

@@ -10,11 +10,11 @@ use Rattle.fix_span.specs.IntLaws.{add-*ℤ, times-times, times_le}
 use Rattle.fix_span.specs.RoundingLaws.{floor_at_most, floor_above, at_most_floor}
 
 -- a number is its floor's multiple and a rest from 0 to below the divisor
-rest_is : (a : ℤ) (d : ℕ) → 0 < d → a ≡ int_div_euclid a (pos d) *ℤ pos d +ℤ int_rem_euclid a (pos d)
+pub rest_is : (a : ℤ) (d : ℕ) → 0 < d → a ≡ int_div_euclid a (pos d) *ℤ pos d +ℤ int_rem_euclid a (pos d)
 rest_is (pos a) d some = omega (arith, ints, div-add-mod' a d)
 rest_is (negsuc a) d some = omega (arith, ints, div-add-mod' a d)
 
-rest_range : (a : ℤ) (d : ℕ) → 0 < d → (pos 0 ≤ℤ int_rem_euclid a (pos d)) × (int_rem_euclid a (pos d) <ℤ pos d)
+pub rest_range : (a : ℤ) (d : ℕ) → 0 < d → (pos 0 ≤ℤ int_rem_euclid a (pos d)) × (int_rem_euclid a (pos d) <ℤ pos d)
 rest_range (pos a) d some = (omega (arith, ints), omega (arith, ints))
 rest_range (negsuc a) d some = (omega (arith, ints), omega (arith, ints))
 

@@ -1,6 +1,9 @@
+pub mod CornerLaws
 pub mod Frac
 pub mod FracLaws
 pub mod IntLaws
 pub mod Rational
 pub mod Rounding
 pub mod RoundingLaws
+pub mod Span
+pub mod SpanLaws

@@ -29,12 +29,17 @@ twice_more v n =
     rw (apart, twice_times v n) (omega (arith, ints))
 
 -- twice the numerator of a number over one denominator, over another
-turned : (p x : ℤ) (b d : ℕ) → p *ℤ pos d ≡ x *ℤ pos b → (pos 2 *ℤ p) *ℤ pos d ≡ x *ℤ pos (b * 2)
-turned p x b d e =
-    twice_times p d ∙ ap (λ (n : ℕ). p *ℤ pos n) (omega arith) ∙ sym (times-times p d 2) ∙ ap (λ (z : ℤ). z *ℤ pos 2) e ∙ times-times x b 2
+twice_over : (p : ℤ) (d : ℕ) → (pos 2 *ℤ p) *ℤ pos d ≡ (p *ℤ pos d) *ℤ pos 2
+twice_over p d = twice_times p d ∙ ap (λ (n : ℕ). p *ℤ pos n) (omega arith) ∙ sym (times-times p d 2)
 
--- where p / b is x / d, the two ends of a rounding of p / b in a unit, told of x / d
-least_end : (p x v : ℤ) (u b d : ℕ) → 0 < b → p *ℤ pos d ≡ x *ℤ pos b
+turned_below : (p x : ℤ) (b d : ℕ) → (p *ℤ pos d) ≤ℤ (x *ℤ pos b) → ((pos 2 *ℤ p) *ℤ pos d) ≤ℤ (x *ℤ pos (b * 2))
+turned_below p x b d h = rw (twice_over p d, sym (times-times x b 2)) (times_le (p *ℤ pos d) (x *ℤ pos b) 2 h)
+
+turned_above : (p x : ℤ) (b d : ℕ) → (x *ℤ pos b) ≤ℤ (p *ℤ pos d) → (x *ℤ pos (b * 2)) ≤ℤ ((pos 2 *ℤ p) *ℤ pos d)
+turned_above p x b d h = rw (twice_over p d, sym (times-times x b 2)) (times_le (x *ℤ pos b) (p *ℤ pos d) 2 h)
+
+-- where p / b is at most x / d, the lower end of a rounding of p / b in a unit, told of x / d
+pub least_end : (p x v : ℤ) (u b d : ℕ) → 0 < b → (p *ℤ pos d) ≤ℤ (x *ℤ pos b)
     → ((pos 2 *ℤ v -ℤ pos 1) *ℤ pos (u * b)) ≤ℤ (pos 2 *ℤ p) → (v *ℤ pos (2 * u * d)) ≤ℤ (x *ℤ pos 2 +ℤ pos (u * d))
 least_end p x v u b d some e h =
     let scaled : (((pos 2 *ℤ v -ℤ pos 1) *ℤ pos (u * b)) *ℤ pos d) ≤ℤ ((pos 2 *ℤ p) *ℤ pos d) = times_le _ _ d h in
@@ -43,9 +48,10 @@ least_end p x v u b d some e h =
     let sum : (x *ℤ pos 2 +ℤ pos (u * d)) *ℤ pos b ≡ x *ℤ pos (2 * b) +ℤ pos (u * d * b) =
     rw (add-*ℤ (x *ℤ pos 2) (pos (u * d)) (pos b), times-times x 2 b) refl in
     cancel_le (v *ℤ pos (2 * u * d)) (x *ℤ pos 2 +ℤ pos (u * d)) b some
-    (rw (times-times v (2 * u * d) b, sum) (omega (arith, ints, scaled, left, turned p x b d e)))
+    (rw (times-times v (2 * u * d) b, sum) (omega (arith, ints, scaled, left, turned_below p x b d e)))
 
-greatest_end : (p x v : ℤ) (u b d : ℕ) → 0 < d → p *ℤ pos d ≡ x *ℤ pos b
+-- where p / b is at least x / d, the upper end
+pub greatest_end : (p x v : ℤ) (u b d : ℕ) → 0 < d → (x *ℤ pos b) ≤ℤ (p *ℤ pos d)
     → (pos 2 *ℤ p) <ℤ ((pos 2 *ℤ v +ℤ pos 1) *ℤ pos (u * b)) → (x *ℤ pos 2 +ℤ pos (u * d)) <ℤ (v *ℤ pos (2 * u * d) +ℤ pos (2 * u * d))
 greatest_end p x v u b d some e h =
     let scaled : ((pos 2 *ℤ p) *ℤ pos d) <ℤ (((pos 2 *ℤ v +ℤ pos 1) *ℤ pos (u * b)) *ℤ pos d) = times_lt _ _ d some h in
@@ -56,7 +62,7 @@ greatest_end p x v u b d some e h =
     let bound : (v *ℤ pos (2 * u * d) +ℤ pos (2 * u * d)) *ℤ pos b ≡ v *ℤ pos (2 * u * d * b) +ℤ pos (2 * u * d * b) =
     rw (add-*ℤ (v *ℤ pos (2 * u * d)) (pos (2 * u * d)) (pos b), times-times v (2 * u * d) b) refl in
     cancel_lt (x *ℤ pos 2 +ℤ pos (u * d)) (v *ℤ pos (2 * u * d) +ℤ pos (2 * u * d)) b
-    (rw (sum, bound) (omega (arith, ints, scaled, right, turned p x b d e)))
+    (rw (sum, bound) (omega (arith, ints, scaled, right, turned_above p x b d e)))
 
 -- a multiple that is at most a number is at most that of the number's floor
 pub at_most_floor : (w v a : ℤ) (n : ℕ) → (w *ℤ pos n) ≤ℤ a → a <ℤ (v *ℤ pos n +ℤ pos n) → w ≤ℤ v
@@ -77,7 +83,7 @@ rounding_is p x v (pos d) u b some_unit some_parts positive e least greatest =
     let step : 1 * 1 ≤ u * d = mul-le-mul some_unit some in
     let some_n : 0 < n = omega (arith, step) in
     let w : ℤ = int_div_euclid a (pos n) in
-    let below : w ≤ℤ v = at_most_floor w v a n (floor_at_most a n some_n) (greatest_end p x v u b d some e greatest) in
-    let above : v ≤ℤ w = at_most_floor v w a n (least_end p x v u b d some_parts e least) (floor_above a n some_n) in
+    let below : w ≤ℤ v = at_most_floor w v a n (floor_at_most a n some_n) (greatest_end p x v u b d some (omega (arith, ints, e)) greatest) in
+    let above : v ≤ℤ w = at_most_floor v w a n (least_end p x v u b d some_parts (omega (arith, ints, e)) least) (floor_above a n some_n) in
     omega (arith, ints, below, above)
 rounding_is p x v (negsuc d) u b some_unit some_parts positive e least greatest = absurd (omega (arith, ints))

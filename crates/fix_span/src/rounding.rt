@@ -49,7 +49,7 @@ fn half_of(unit: u32, more: bool) -> u32
 }
 
 /// The floor of a quotient.
-fn floor_of(num: i128, den: i128) -> i128
+pub(crate) fn floor_of(num: i128, den: i128) -> i128
     requires { pos 0 <ℤ den }
     ensures { result ≡ int_div_euclid num den }
 {
@@ -57,7 +57,7 @@ fn floor_of(num: i128, den: i128) -> i128
 }
 
 /// What is left of a number beside a whole multiple of another.
-fn rest_of(num: i128, den: i128) -> i128
+pub(crate) fn rest_of(num: i128, den: i128) -> i128
     requires { pos 0 <ℤ den }
     ensures value { result ≡ int_rem_euclid num den }
     ensures least { pos 0 ≤ℤ result }
