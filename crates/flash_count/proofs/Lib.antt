@@ -1,3 +1,8 @@
+pub mod FlagLemmas
+pub mod RowLemmas
+pub mod ListLemmas
+pub mod LeadLemmas
+pub mod StartLemmas
 pub mod ChainLemmas
 pub mod CountLemmas
 pub mod RunLemmas

@@ -17,10 +17,12 @@
 mod changes;
 mod counting;
 mod recent;
-#[cfg(test)]
-mod tests;
+mod rows;
+mod starts;
 mod tracing;
 mod tracking;
+mod words;
 
+pub use rows::{row_begin, row_push, row_words};
 pub use tracing::{Trace, chain};
 pub use tracking::{Flag, Tracker};
