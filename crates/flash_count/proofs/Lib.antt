@@ -9,4 +9,3 @@ pub mod RunLemmas
 pub mod SeenLemmas
 pub mod TraceLemmas
 pub mod TrackedLemmas
-pub mod SteadyLemmas

@@ -9,7 +9,8 @@ use Rattle.page_model.specs.declared.colour.Tint.{Tint}
 use Rattle.flash_count.specs.declared.changes.Change.{Change}
 use Rattle.flash_count.specs.declared.changes.Change.TheVariants.{PossibleRise, PossibleFall, SureRise, SureFall}
 use Rattle.flash_count.specs.Counting.{Makes, MakesAt}
-use Rattle.flash_count.specs.Rows.{EndsBefore, EndsWith, LoweredIf, StandsFor, TellsOf, byte, column_of, is_sure, number_of, opposite_of, tint_in, words_at}
+use Rattle.flash_count.specs.Rows.{EndsBefore, EndsWith, StandsFor, TellsOf, byte, column_of, is_sure, number_of, opposite_of, tint_in, words_at}
+use Rattle.flash_count.specs.Pushing.{LoweredIf}
 use Rattle.flash_count.specs.Starts.{IsLatest, Leads}
 use Rattle.flash_count.proofs.ChainLemmas.{change-within}
 use Rattle.flash_count.proofs.ListLemmas.{slice_get-end, slice_get-front}
@@ -302,7 +303,7 @@ pub row-pushed : (rate turn : ℕ) (tints : List Tint) (tint : Tint) (old new wo
     → ((i : ℕ) → (i < 9 * (turn % (rate + 1))) ⊎ (9 * (turn % (rate + 1)) + 9 ≤ i) → get_or new i 0 ≡ get_or old i 0)
     → StandsFor rate (tints ++ tint ∷ []) new
 row-pushed rate turn tints tint old new words last stands next long there others = record {
-  long = long ∙ stands.long;
+  room = let before = stands.room in omega (arith, long);
   tells = λ frame below near.
       let count : length (tints ++ tint ∷ []) ≡ length tints + 1 = length-append tints (tint ∷ []) in
       elim (cases_lt frame turn) [

@@ -1,7 +1,7 @@
 pub mod Chains
 pub mod Counting
+pub mod Pushing
 pub mod Rows
 pub mod Runs
 pub mod Starts
-pub mod Steady
 pub mod Tracked

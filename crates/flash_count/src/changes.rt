@@ -35,12 +35,6 @@ impl Opposing {
     }
 }
 
-/// The changes that some colours of two tints make.
-pub(crate) const POSSIBLE: Opposing = Opposing {
-    first: Change::PossibleRise,
-    second: Change::PossibleFall,
-};
-
 /// The changes that all colours of two tints make.
 pub(crate) const SURE: Opposing = Opposing {
     first: Change::SureRise,

@@ -16,7 +16,6 @@
 
 mod changes;
 mod counting;
-mod recent;
 mod rows;
 mod starts;
 mod tracing;

@@ -1,8 +1,9 @@
 // Rows of words that stand for the tints of a pixel, and one push into them.
 ghost use Rattle.std.specs.Prelude.{ℕ, List, ◌≡◌, ◌⊎◌, ◌↔◌, IsTrue, min, ◌+◌, ◌*◌, ◌%◌, ◌^◌, ◌<◌, ◌≤◌, ◌++◌, ◌∷◌, [], false, true, length, slice_index};
 ghost use Rattle.page_model.specs.declared.colour.Tint.{Tint};
-ghost use Rattle.flash_count.specs.Rows.{IsEndedAfter, byte, StandsFor, TellAfter};
-ghost use Rattle.flash_count.specs.Steady.{Tells};
+ghost use Rattle.flash_count.specs.Rows.{byte, StandsFor};
+ghost use Rattle.flash_count.specs.Pushing.{IsEndedAfter, TellAfter};
+ghost use Rattle.flash_count.specs.Tracked.{Tells};
 ghost use Rattle.flash_count.specs.Tracked.{last_of};
 
 use crate::changes::Change;
@@ -24,7 +25,7 @@ pub fn row_words(rate: u16) -> u32
 pub fn row_begin(row: &mut [u64], rate: u16)
     requires some { 1 ≤ rate }
     requires limit { rate ≤ 240 }
-    requires long { length row.old ≡ 9 * (rate + 1) }
+    requires room { 9 * (rate + 1) ≤ length row.old }
     ensures { StandsFor rate [] row.new }
 {
     row.fill(0);
@@ -48,7 +49,7 @@ fn later(number: u8, rate: u16) -> u8
 /// Where they start, seen from the next frame.
 fn chains_before(row: &[u64], rate: u16, turn: u32) -> LatestChains
     requires limit { rate ≤ 240 }
-    requires long { length row.now ≡ 9 * (rate + 1) }
+    requires room { 9 * (rate + 1) ≤ length row.now }
     ensures possible { IsEndedAfter rate row.now turn false result.possible }
     ensures sure { IsEndedAfter rate row.now turn true result.sure }
 {
@@ -72,7 +73,7 @@ fn chains_before(row: &[u64], rate: u16, turn: u32) -> LatestChains
 fn words_after(row: &[u64], rate: u16, turn: u32, tint: Tint) -> [u64; 9]
     requires some { 1 ≤ rate }
     requires limit { rate ≤ 240 }
-    requires long { length row.now ≡ 9 * (rate + 1) }
+    requires room { 9 * (rate + 1) ≤ length row.now }
     ensures { TellAfter rate row.now turn tint result }
 {
     let rise = starts_of(row, rate, turn, tint, Change::PossibleRise);
@@ -125,7 +126,7 @@ fn flag_in(word: u64, rate: u16) -> Flag
 pub fn row_push(row: &mut [u64], rate: u16, turn: u32, tint: Tint) -> Flag
     requires some { 1 ≤ rate }
     requires limit { rate ≤ 240 }
-    requires long { length row.old ≡ 9 * (rate + 1) }
+    requires room { 9 * (rate + 1) ≤ length row.old }
     requires few { turn < 2 ^ 31 }
     ensures stands { (tints : List Tint) → length tints ≡ turn → StandsFor rate tints row.old → StandsFor rate (tints ++ tint ∷ []) row.new }
     ensures flag { (tints : List Tint) → length tints ≡ turn → StandsFor rate tints row.old → Tells (last_of (rate + 1) (tints ++ tint ∷ [])) result }

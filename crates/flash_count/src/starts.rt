@@ -1,7 +1,8 @@
 // Where the latest chains start that end at the next frame.
 ghost use Rattle.std.specs.Prelude.{ℕ, ◌≡◌, ◌+◌, ◌*◌, ◌%◌, ◌<◌, ◌≤◌, length, min, slice_index};
 ghost use Rattle.flash_count.specs.Counting.{Makes};
-ghost use Rattle.flash_count.specs.Rows.{AreStartsAfter, Lowered, LoweredIf, number_of};
+ghost use Rattle.flash_count.specs.Rows.{number_of};
+ghost use Rattle.flash_count.specs.Pushing.{AreStartsAfter, Lowered, LoweredIf};
 
 use crate::changes::Change;
 use crate::words::{bytes_of, tint_of};
@@ -56,7 +57,7 @@ fn lower_if(best: &mut [u8; 8], change: Change, earlier: Tint, later: Tint, word
 /// with this change.
 pub(crate) fn starts_of(row: &[u64], rate: u16, turn: u32, tint: Tint, change: Change) -> [u8; 8]
     requires limit { rate ≤ 240 }
-    requires long { length row.now ≡ 9 * (rate + 1) }
+    requires room { 9 * (rate + 1) ≤ length row.now }
     ensures { AreStartsAfter rate row.now turn tint change result }
 {
     let window = usize::from(rate) + 1;
