@@ -1,3 +1,4 @@
+pub mod StillLemmas
 pub mod FlagLemmas
 pub mod RowLemmas
 pub mod ListLemmas

@@ -29,7 +29,7 @@ column-below SureRise = omega arith
 column-below SureFall = omega arith
 
 -- a change between two frames stays one where a tint is added, and was one before
-change-grown : (change : Change) (tints : List Tint) (tint : Tint) (j k : ℕ) → MakesAt change tints j k
+pub change-grown : (change : Change) (tints : List Tint) (tint : Tint) (j k : ℕ) → MakesAt change tints j k
     → MakesAt change (tints ++ tint ∷ []) j k
 change-grown change tints tint j k made =
     let within = change-within (Makes change) tints j k made in
@@ -41,7 +41,7 @@ change-grown change tints tint j k made =
       changes = made.changes;
     }
 
-change-shrunk : (change : Change) (tints : List Tint) (tint : Tint) (j k : ℕ) → j < k → k < length tints
+pub change-shrunk : (change : Change) (tints : List Tint) (tint : Tint) (j k : ℕ) → j < k → k < length tints
     → MakesAt change (tints ++ tint ∷ []) j k → MakesAt change tints j k
 change-shrunk change tints tint j k before within made = record {
   earlier = made.earlier;
@@ -76,7 +76,7 @@ latest-grown change tints tint n window frame number below =
     (λ s ends. ends-grown change tints tint n frame s ends)
     (λ s ends near. (s, omega arith, ends-shrunk change tints tint n frame s below ends))
 
-before-grown : (sure : Bool) (tints : List Tint) (tint : Tint) (frame start : ℕ) → EndsBefore sure tints frame start
+pub before-grown : (sure : Bool) (tints : List Tint) (tint : Tint) (frame start : ℕ) → EndsBefore sure tints frame start
     → EndsBefore sure (tints ++ tint ∷ []) frame start
 before-grown sure tints tint frame start ends = record {
   end = ends.end;
@@ -86,7 +86,7 @@ before-grown sure tints tint frame start ends = record {
   ends = ends-grown ends.change tints tint 8 ends.end start ends.ends;
 }
 
-before-shrunk : (sure : Bool) (tints : List Tint) (tint : Tint) (frame start : ℕ) → frame ≤ length tints
+pub before-shrunk : (sure : Bool) (tints : List Tint) (tint : Tint) (frame start : ℕ) → frame ≤ length tints
     → EndsBefore sure (tints ++ tint ∷ []) frame start → EndsBefore sure tints frame start
 before-shrunk sure tints tint frame start within ends = record {
   end = ends.end;

@@ -16,8 +16,10 @@
 
 mod changes;
 mod counting;
+mod next;
 mod rows;
 mod starts;
+mod still;
 mod tracing;
 mod tracking;
 mod words;

@@ -1,15 +1,12 @@
 // Rows of words that stand for the tints of a pixel, and one push into them.
-ghost use Rattle.std.specs.Prelude.{ℕ, List, ◌≡◌, ◌⊎◌, ◌↔◌, IsTrue, min, ◌+◌, ◌*◌, ◌%◌, ◌^◌, ◌<◌, ◌≤◌, ◌++◌, ◌∷◌, [], false, true, length, slice_index};
+ghost use Rattle.std.specs.Prelude.{ℕ, List, ◌≡◌, ◌⊎◌, ◌↔◌, IsTrue, ◌+◌, ◌*◌, ◌^◌, ◌<◌, ◌≤◌, ◌++◌, ◌∷◌, [], length, slice_index};
 ghost use Rattle.page_model.specs.declared.colour.Tint.{Tint};
-ghost use Rattle.flash_count.specs.Rows.{byte, StandsFor};
-ghost use Rattle.flash_count.specs.Pushing.{IsEndedAfter, TellAfter};
-ghost use Rattle.flash_count.specs.Tracked.{Tells};
-ghost use Rattle.flash_count.specs.Tracked.{last_of};
+ghost use Rattle.flash_count.specs.Rows.{StandsFor, byte};
+ghost use Rattle.flash_count.specs.Tracked.{Tells, last_of};
 
-use crate::changes::Change;
-use crate::starts::{place_before, starts_of};
+use crate::next::next_words;
 use crate::tracking::Flag;
-use crate::words::{bytes_of, first_word, word_of};
+use crate::words::bytes_of;
 use page_model::Tint;
 
 /// How many words a row has for a rate in frames per second: nine for each frame of a window.
@@ -29,71 +26,6 @@ pub fn row_begin(row: &mut [u64], rate: u16)
     ensures { StandsFor rate [] row.new }
 {
     row.fill(0);
-}
-
-/// Where the latest chains of eight changes start that ended before the next frame.
-#[derive(Clone, Copy)]
-struct LatestChains {
-    possible: u8,
-    sure: u8,
-}
-
-/// One frame later.
-fn later(number: u8, rate: u16) -> u8
-    requires limit { rate ≤ 240 }
-    ensures { result ≡ min (number + 1) (rate + 1) }
-{
-    number.saturating_add(1).min(rate as u8 + 1)
-}
-
-/// Where they start, seen from the next frame.
-fn chains_before(row: &[u64], rate: u16, turn: u32) -> LatestChains
-    requires limit { rate ≤ 240 }
-    requires room { 9 * (rate + 1) ≤ length row.now }
-    ensures possible { IsEndedAfter rate row.now turn false result.possible }
-    ensures sure { IsEndedAfter rate row.now turn true result.sure }
-{
-    let window = usize::from(rate) + 1;
-    if turn == 0 {
-        let none = rate as u8 + 1;
-        return LatestChains {
-            possible: none,
-            sure: none,
-        };
-    }
-    let place = place_before(turn as usize % window, window);
-    let bytes = bytes_of(row[9 * place]);
-    LatestChains {
-        possible: later(bytes[6], rate),
-        sure: later(bytes[7], rate),
-    }
-}
-
-/// The words of the next frame, by looking back on all frames of the window.
-fn words_after(row: &[u64], rate: u16, turn: u32, tint: Tint) -> [u64; 9]
-    requires some { 1 ≤ rate }
-    requires limit { rate ≤ 240 }
-    requires room { 9 * (rate + 1) ≤ length row.now }
-    ensures { TellAfter rate row.now turn tint result }
-{
-    let rise = starts_of(row, rate, turn, tint, Change::PossibleRise);
-    let fall = starts_of(row, rate, turn, tint, Change::PossibleFall);
-    let sure_rise = starts_of(row, rate, turn, tint, Change::SureRise);
-    let sure_fall = starts_of(row, rate, turn, tint, Change::SureFall);
-    let ended = chains_before(row, rate, turn);
-    let possible = ended.possible.min(rise[7]).min(fall[7]);
-    let sure = ended.sure.min(sure_rise[7]).min(sure_fall[7]);
-    [
-        first_word(tint, possible, sure),
-        word_of(rise),
-        word_of(fall),
-        word_of(sure_rise),
-        word_of(sure_fall),
-        0,
-        0,
-        0,
-        0,
-    ]
 }
 
 /// Writes the words of a frame at its place.
@@ -131,7 +63,7 @@ pub fn row_push(row: &mut [u64], rate: u16, turn: u32, tint: Tint) -> Flag
     ensures stands { (tints : List Tint) → length tints ≡ turn → StandsFor rate tints row.old → StandsFor rate (tints ++ tint ∷ []) row.new }
     ensures flag { (tints : List Tint) → length tints ≡ turn → StandsFor rate tints row.old → Tells (last_of (rate + 1) (tints ++ tint ∷ [])) result }
 {
-    let words = words_after(row, rate, turn, tint);
+    let words = next_words(row, rate, turn, tint);
     put(row, turn as usize % (usize::from(rate) + 1), &words);
     flag_in(words[0], rate)
 }

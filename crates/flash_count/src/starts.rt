@@ -1,5 +1,5 @@
 // Where the latest chains start that end at the next frame.
-ghost use Rattle.std.specs.Prelude.{ℕ, ◌≡◌, ◌+◌, ◌*◌, ◌%◌, ◌<◌, ◌≤◌, length, min, slice_index};
+ghost use Rattle.std.specs.Prelude.{ℕ, ◌≡◌, ◌+◌, ◌-◌, ◌*◌, ◌%◌, ◌<◌, ◌≤◌, length, min, slice_index};
 ghost use Rattle.flash_count.specs.Counting.{Makes};
 ghost use Rattle.flash_count.specs.Rows.{number_of};
 ghost use Rattle.flash_count.specs.Pushing.{AreStartsAfter, Lowered, LoweredIf};
@@ -9,12 +9,21 @@ use crate::words::{bytes_of, tint_of};
 use page_model::Tint;
 
 /// The place of the frame before one, in a ring of so many.
-pub(crate) fn place_before(place: usize, window: usize) -> usize
+fn place_before(place: usize, window: usize) -> usize
     requires { place < window }
     ensures inside { result < window }
     ensures before { (k : ℕ) → place ≡ (k + 1) % window → result ≡ k % window }
 {
     if place == 0 { window - 1 } else { place - 1 }
+}
+
+/// The place of the frame before the next one.
+pub(crate) fn last_place(rate: u16, turn: u32) -> usize
+    requires { 0 < turn }
+    ensures value { result ≡ (turn - 1) % (rate + 1) }
+    ensures inside { result < rate + 1 }
+{
+    (turn as usize - 1) % (usize::from(rate) + 1)
 }
 
 /// How many frames the next one looks back on: those of a window, or all where fewer went by.

@@ -4,7 +4,7 @@ use Rattle.std.specs.Prelude.{true, false, min}
 use Rattle.page_model.specs.declared.colour.Tint.{Tint}
 use Rattle.flash_count.specs.declared.changes.Change.TheVariants.{PossibleRise, PossibleFall, SureRise, SureFall}
 use Rattle.flash_count.proofs.RowLemmas.{ended-more, last-is, possible-changes, sure-changes, word-starts, words-tell}
-use Rattle.flash_count.proofs.rows.words_after.Goals as goal
+use Rattle.flash_count.proofs.next.words_after.Goals as goal
 
 pub returns : goal.returns
 returns c tints count stands =

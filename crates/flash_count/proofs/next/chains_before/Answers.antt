@@ -3,13 +3,7 @@ use Rattle.std.proofs.Common.{ℕ, ◌≡◌, ◌∙◌, ◌+◌, ◌-◌, ◌*�
 use Rattle.flash_count.specs.Rows.{EndsBefore, byte}
 use Rattle.flash_count.specs.Starts.{IsLatest}
 use Rattle.flash_count.proofs.RowLemmas.{ended-later}
-use Rattle.flash_count.proofs.rows.chains_before.Goals as goal
-
-place-is : (turn place rate window : ℕ) → 0 < turn → window ≡ rate + 1 → ((k : ℕ) → turn % window ≡ (k + 1) % window → place ≡ k % window)
-    → place ≡ (turn - 1) % (rate + 1)
-place-is turn place rate window some is before =
-    let at : turn ≡ turn - 1 + 1 = omega arith in
-    before (turn - 1) (ap (λ n. n % window) at) ∙ ap (λ w. (turn - 1) % w) is
+use Rattle.flash_count.proofs.next.chains_before.Goals as goal
 
 read : (row : List ℕ) (rate turn place i number : ℕ) → place ≡ (turn - 1) % (rate + 1) → number ≡ byte (get_or row (9 * place) 0) i
     → byte (get_or row (9 * ((turn - 1) % (rate + 1)) + 0) 0) i ≡ number
@@ -20,23 +14,17 @@ read row rate turn place i number at is =
 pub returns-clause-possible : goal.returns-clause-possible
 returns-clause-possible c tints count stands =
     let some : 0 < c.args.turn = omega arith in
-    let window : c.from-window.result + 1 ≡ c.args.rate + 1 = omega (arith, c.from-window.ensures) in
-    let at = place-is c.args.turn c.place_before-place.result c.args.rate (c.from-window.result + 1) some window
-    c.place_before-place.ensures.before in
     let tells = stands.tells (c.args.turn - 1) (omega arith) (omega arith) in
     ended-later c.args.rate c.args.turn false tints (get_or c.bytes_of-bytes.result 6 0) c.later.result some c.later.ensures
     (subst (IsLatest (EndsBefore false tints (c.args.turn - 1 + 1)) c.args.rate (c.args.turn - 1))
-    (read c.args.row.now c.args.rate c.args.turn c.place_before-place.result 6 (get_or c.bytes_of-bytes.result 6 0) at
-    (c.bytes_of-bytes.ensures 6)) tells.possible)
+    (read c.args.row.now c.args.rate c.args.turn c.last_place-place.result 6 (get_or c.bytes_of-bytes.result 6 0)
+    c.last_place-place.ensures.value (c.bytes_of-bytes.ensures 6)) tells.possible)
 
 pub returns-clause-sure : goal.returns-clause-sure
 returns-clause-sure c tints count stands =
     let some : 0 < c.args.turn = omega arith in
-    let window : c.from-window.result + 1 ≡ c.args.rate + 1 = omega (arith, c.from-window.ensures) in
-    let at = place-is c.args.turn c.place_before-place.result c.args.rate (c.from-window.result + 1) some window
-    c.place_before-place.ensures.before in
     let tells = stands.tells (c.args.turn - 1) (omega arith) (omega arith) in
     ended-later c.args.rate c.args.turn true tints (get_or c.bytes_of-bytes.result 7 0) c.later-2.result some c.later-2.ensures
     (subst (IsLatest (EndsBefore true tints (c.args.turn - 1 + 1)) c.args.rate (c.args.turn - 1))
-    (read c.args.row.now c.args.rate c.args.turn c.place_before-place.result 7 (get_or c.bytes_of-bytes.result 7 0) at
-    (c.bytes_of-bytes.ensures 7)) tells.sure)
+    (read c.args.row.now c.args.rate c.args.turn c.last_place-place.result 7 (get_or c.bytes_of-bytes.result 7 0)
+    c.last_place-place.ensures.value (c.bytes_of-bytes.ensures 7)) tells.sure)
