@@ -1,7 +1,12 @@
+pub mod StillLemmas
+pub mod FlagLemmas
+pub mod RowLemmas
+pub mod ListLemmas
+pub mod LeadLemmas
+pub mod StartLemmas
 pub mod ChainLemmas
 pub mod CountLemmas
 pub mod RunLemmas
 pub mod SeenLemmas
 pub mod TraceLemmas
 pub mod TrackedLemmas
-pub mod SteadyLemmas

@@ -1,5 +1,7 @@
 pub mod Chains
 pub mod Counting
+pub mod Pushing
+pub mod Rows
 pub mod Runs
-pub mod Steady
+pub mod Starts
 pub mod Tracked

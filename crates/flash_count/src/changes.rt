@@ -1,6 +1,7 @@
 // The changes between two tints of which chains are made.
 ghost use Rattle.std.specs.Prelude.{◌≡◌, ◌<◌, ◌↔◌, IsTrue, length};
 ghost use Rattle.flash_count.specs.Counting.{Makes, MakesAt};
+ghost use Rattle.flash_count.specs.Rows.{column_of, opposite_of};
 
 use page_model::Tint;
 use srgb_luma::{fall_possible, fall_sure, rise_possible, rise_sure};
@@ -34,12 +35,6 @@ impl Opposing {
     }
 }
 
-/// The changes that some colours of two tints make.
-pub(crate) const POSSIBLE: Opposing = Opposing {
-    first: Change::PossibleRise,
-    second: Change::PossibleFall,
-};
-
 /// The changes that all colours of two tints make.
 pub(crate) const SURE: Opposing = Opposing {
     first: Change::SureRise,
@@ -47,8 +42,33 @@ pub(crate) const SURE: Opposing = Opposing {
 };
 
 impl Change {
+    /// The change that is opposed to it.
+    pub(crate) fn opposite(self) -> Change
+        ensures { result ≡ opposite_of self }
+    {
+        match self {
+            Change::PossibleRise => Change::PossibleFall,
+            Change::PossibleFall => Change::PossibleRise,
+            Change::SureRise => Change::SureFall,
+            Change::SureFall => Change::SureRise,
+        }
+    }
+
+    /// The place of its word among the nine words of a frame.
+    pub(crate) fn column(self) -> usize
+        ensures value { result ≡ column_of self }
+        ensures small { result < 9 }
+    {
+        match self {
+            Change::PossibleRise => 1,
+            Change::PossibleFall => 2,
+            Change::SureRise => 3,
+            Change::SureFall => 4,
+        }
+    }
+
     /// Whether two tints make the change.
-    fn is_made(self, from: Tint, to: Tint) -> bool
+    pub(crate) fn is_made(self, from: Tint, to: Tint) -> bool
         ensures { IsTrue result ↔ Makes self from to }
     {
         match self {

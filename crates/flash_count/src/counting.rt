@@ -1,7 +1,6 @@
 // How many opposing changes in turn can be had from each place of a list of tints.
-ghost use Rattle.std.specs.Prelude.{◌+◌, ◌<◌, ◌≤◌, ◌↔◌, IsTrue, length};
-ghost use Rattle.flash_count.specs.Chains.{HasChainOf};
-ghost use Rattle.flash_count.specs.Counting.{CountsFirst, CountsSecond, IsCountBefore, IsCountOf, IsFirstFull, Makes, MakesAt};
+ghost use Rattle.std.specs.Prelude.{◌+◌, ◌<◌, ◌≤◌, length};
+ghost use Rattle.flash_count.specs.Counting.{CountsFirst, CountsSecond, IsCountBefore, IsCountOf, IsFirstFull, MakesAt};
 
 use crate::changes::Opposing;
 use page_model::Tint;
@@ -94,16 +93,4 @@ pub(crate) fn full_place(counts: &[u8; MOST], places: usize) -> Option<usize>
         }
     }
     None
-}
-
-/// Whether nine of the tints are a chain.
-pub(crate) fn has_chain(tints: &[Tint], opposing: Opposing) -> bool
-    requires fits { length tints.now ≤ 241 }
-    ensures { IsTrue result ↔ HasChainOf (Makes opposing.first) (Makes opposing.second) tints.now }
-{
-    let counts = Counts::of(tints, opposing);
-    if full_place(&counts.first, tints.len()).is_some() {
-        return true;
-    }
-    full_place(&counts.second, tints.len()).is_some()
 }

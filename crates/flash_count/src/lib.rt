@@ -16,11 +16,14 @@
 
 mod changes;
 mod counting;
-mod recent;
-#[cfg(test)]
-mod tests;
+mod next;
+mod rows;
+mod starts;
+mod still;
 mod tracing;
 mod tracking;
+mod words;
 
+pub use rows::{row_begin, row_push, row_words};
 pub use tracing::{Trace, chain};
 pub use tracking::{Flag, Tracker};

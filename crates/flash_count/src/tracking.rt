@@ -1,14 +1,14 @@
 // The tints of a pixel, frame by frame, and whether they flash in the last window.
-ghost use Rattle.std.specs.Prelude.{◌≡◌, ◌+◌, ◌^◌, ◌<◌, ◌≤◌, ◌↔◌, IsTrue, false, length};
-ghost use Rattle.flash_count.specs.Chains.{HasChainOf, HasPossibleChain, HasSureChain};
-ghost use Rattle.flash_count.specs.Counting.{Makes};
+ghost use Rattle.std.specs.Prelude.{◌≡◌, ◌+◌, ◌^◌, ◌<◌, ◌≤◌, ◌↔◌, IsTrue};
+ghost use Rattle.flash_count.specs.Chains.{HasPossibleChain, HasSureChain};
 ghost use Rattle.flash_count.specs.Tracked.{pushed, untracked};
 
-use crate::changes::{Opposing, POSSIBLE, SURE};
-use crate::counting::has_chain;
-use crate::recent::Recent;
+use crate::rows::{row_begin, row_push};
 use page_model::Tint;
 use std::marker::Model;
+
+/// The most words that a row has: nine for each frame of a window at the greatest rate.
+const MOST_WORDS: usize = 9 * 241;
 
 /// Whether a window has more than three flashes, possibly and surely.
 #[derive(Clone, Copy, Debug, PartialEq, Eq)]
@@ -20,42 +20,20 @@ pub struct Flag {
 /// The last tints of a pixel: those of one window, or all where fewer were pushed; and their flag.
 #[derive(Drop)]
 pub struct Tracker {
-    last: Recent,
+    rate: u16,
+    count: u32,
+    row: [u64; MOST_WORDS],
     flag: Flag,
 }
 
 impl Model for Tracker {
-    ghost use Rattle.flash_count.specs.Steady.{Tells};
-    ghost use Rattle.flash_count.specs.Tracked.{Tracked};
+    ghost use Rattle.flash_count.specs.Tracked.{KeepsTrack, Tracked, tints_in};
 
     ghost Value = { Tracked };
 
-    ghost view = { λ t. t.last };
+    ghost view = { λ t. record { rate = t.rate; count = t.count; recent = tints_in t.rate t.count t.row } };
 
-    ghost invariant = { λ t. Tells t.last.recent t.flag };
-}
-
-/// Whether tints have a chain, by whether the tints one push before had one, and whether the push
-/// lost none and won none.
-fn has_chain_after(
-    before: bool,
-    lost_none: bool,
-    won_none: bool,
-    tints: &[Tint],
-    opposing: Opposing,
-) -> bool
-    requires fits { length tints.now ≤ 241 }
-    requires lost { IsTrue before → IsTrue lost_none → HasChainOf (Makes opposing.first) (Makes opposing.second) tints.now }
-    requires won { before ≡ false → IsTrue won_none → HasChainOf (Makes opposing.first) (Makes opposing.second) tints.now → ⊥ }
-    ensures { IsTrue result ↔ HasChainOf (Makes opposing.first) (Makes opposing.second) tints.now }
-{
-    if before && lost_none {
-        return true;
-    }
-    if !before && won_none {
-        return false;
-    }
-    has_chain(tints, opposing)
+    ghost invariant = { λ t. KeepsTrack t.rate t.count t.row t.flag };
 }
 
 impl Tracker {
@@ -65,8 +43,12 @@ impl Tracker {
         requires limit { rate ≤ 240 }
         ensures { result ≡ untracked rate }
     {
+        let mut row = [0; MOST_WORDS];
+        row_begin(&mut row, rate);
         Tracker {
-            last: Recent::new(rate),
+            rate,
+            count: 0,
+            row,
             flag: Flag {
                 possible: false,
                 sure: false,
@@ -79,14 +61,8 @@ impl Tracker {
         requires { self.old.count < 2 ^ 31 }
         ensures { self.new ≡ pushed tint self.old }
     {
-        let lost_none = self.last.loses_nothing();
-        let won_none = self.last.gains_nothing(tint);
-        self.last.push(tint);
-        let tints = self.last.tints();
-        self.flag = Flag {
-            possible: has_chain_after(self.flag.possible, lost_none, won_none, tints, POSSIBLE),
-            sure: has_chain_after(self.flag.sure, lost_none, won_none, tints, SURE),
-        };
+        self.flag = row_push(&mut self.row, self.rate, self.count, tint);
+        self.count += 1;
     }
 
     /// Whether the last tints, one more than the rate or all, have a chain of possible changes, and

@@ -1,45 +1,31 @@
--- What a push loses and wins, and so the flag after it.
-use Rattle.std.proofs.Common.{◌∙◌, List, ap, subst, sym}
-use Rattle.std.specs.Prelude.{◌↔◌, IsTrue}
+-- The row stands for one tint more, whatever tints it stood for.
+use Rattle.std.proofs.Common.{◌≡◌, ◌∙◌, ◌+◌, List, [], ◌∷◌, ◌++◌, length, length-append, ap, subst, sym}
 use Rattle.page_model.specs.declared.colour.Tint.{Tint}
-use Rattle.page_model.specs.Change.{IsPossibleFall, IsPossibleRise, IsSureFall, IsSureRise}
-use Rattle.flash_count.specs.Chains.{HasChainOf, HasPossibleChain, HasSureChain}
-use Rattle.flash_count.specs.Tracked.{Tracked}
-use Rattle.flash_count.proofs.SteadyLemmas.{chain-before, chain-kept, never-possible_fall, never-possible_rise, never-sure_fall, never-sure_rise}
+use Rattle.flash_count.specs.Tracked.{Tells, pushed}
+use Rattle.flash_count.proofs.TrackedLemmas.{tints_in-last, tints_in-pushed}
 use Rattle.flash_count.proofs.tracking.Tracker.push.Goals as goal
 
-pub has_chain_after-requires-clause-lost : goal.has_chain_after-requires-clause-lost
-has_chain_after-requires-clause-lost c had kept =
-    let are = c.tints-tints.ensures.value ∙ ap (λ (t : Tracked). t.recent) c.push.ensures in
-    subst (λ (ts : List Tint). HasChainOf IsPossibleRise IsPossibleFall ts) (sym are)
-    (chain-kept IsPossibleRise IsPossibleFall c.self.inside.last c.args.tint never-possible_rise never-possible_fall
-    c.loses_nothing-lost_none.ensures.fits (c.loses_nothing-lost_none.ensures.nothing kept) (c.self.invariant.possible.0 had))
-
-pub has_chain_after-requires-clause-won : goal.has_chain_after-requires-clause-won
-has_chain_after-requires-clause-won c none kept has =
-    let are = c.tints-tints.ensures.value ∙ ap (λ (t : Tracked). t.recent) c.push.ensures in
-    let before = chain-before IsPossibleRise IsPossibleFall c.self.inside.last c.args.tint never-possible_rise never-possible_fall
-    (c.gains_nothing-won_none.ensures kept) (subst (λ (ts : List Tint). HasChainOf IsPossibleRise IsPossibleFall ts) are has) in
-    let had = c.self.invariant.possible.1 before in
-    absurd (cc)
-
-pub has_chain_after-requires-2-clause-lost : goal.has_chain_after-requires-2-clause-lost
-has_chain_after-requires-2-clause-lost c had kept =
-    let are = c.tints-tints.ensures.value ∙ ap (λ (t : Tracked). t.recent) c.push.ensures in
-    subst (λ (ts : List Tint). HasChainOf IsSureRise IsSureFall ts) (sym are)
-    (chain-kept IsSureRise IsSureFall c.self.inside.last c.args.tint never-sure_rise never-sure_fall
-    c.loses_nothing-lost_none.ensures.fits (c.loses_nothing-lost_none.ensures.nothing kept) (c.self.invariant.sure.0 had))
-
-pub has_chain_after-requires-2-clause-won : goal.has_chain_after-requires-2-clause-won
-has_chain_after-requires-2-clause-won c none kept has =
-    let are = c.tints-tints.ensures.value ∙ ap (λ (t : Tracked). t.recent) c.push.ensures in
-    let before = chain-before IsSureRise IsSureFall c.self.inside.last c.args.tint never-sure_rise never-sure_fall
-    (c.gains_nothing-won_none.ensures kept) (subst (λ (ts : List Tint). HasChainOf IsSureRise IsSureFall ts) are has) in
-    let had = c.self.invariant.sure.1 before in
-    absurd (cc)
-
 pub invariant_of-self : goal.invariant_of-self
-invariant_of-self c = record {
-  possible = subst (λ (ts : List Tint). IsTrue c.has_chain_after.result ↔ HasPossibleChain ts) c.tints-tints.ensures.value c.has_chain_after.ensures;
-  sure = subst (λ (ts : List Tint). IsTrue c.has_chain_after-2.result ↔ HasSureChain ts) c.tints-tints.ensures.value c.has_chain_after-2.ensures;
-}
+invariant_of-self c =
+    let keeps = c.self.invariant in
+    let stands = c.row_push-self-inside.ensures.stands keeps.tints keeps.are keeps.stands in
+    let are : length (keeps.tints ++ c.args.tint ∷ []) ≡ c.self.inside.count + 1 =
+    length-append keeps.tints (c.args.tint ∷ []) ∙ ap (λ n. n + 1) keeps.are in record {
+      some = keeps.some;
+      limit = keeps.limit;
+      tints = keeps.tints ++ c.args.tint ∷ [];
+      are = are;
+      stands = stands;
+      tells = subst (λ (ts : List Tint). Tells ts c.row_push-self-inside.result)
+          (sym (tints_in-last c.self.inside.rate (c.self.inside.count + 1) (keeps.tints ++ c.args.tint ∷ []) c.row_push-self-inside.new.row
+          c.args.tint are stands))
+          (c.row_push-self-inside.ensures.flag keeps.tints keeps.are keeps.stands);
+    }
+
+pub returns : goal.returns
+returns c =
+    let keeps = c.self.invariant in
+    let recent = tints_in-pushed c.self.inside.rate c.self.inside.count keeps.tints c.args.tint c.self.inside.row
+    c.row_push-self-inside.new.row keeps.are keeps.stands (c.row_push-self-inside.ensures.stands keeps.tints keeps.are keeps.stands) in
+    ap (λ (ts : List Tint). record { rate = c.self.inside.rate; count = c.self.inside.count + 1; recent = ts }) recent
+    ∙ ap (pushed c.args.tint) c.self.view_is

@@ -1,0 +1,79 @@
+// The words of the next frame.
+ghost use Rattle.std.specs.Prelude.{◌≡◌, ◌+◌, ◌*◌, ◌≤◌, false, true, length};
+ghost use Rattle.flash_count.specs.Pushing.{IsEndedAfter, TellAfter};
+
+use crate::changes::Change;
+use crate::starts::{last_place, starts_of};
+use crate::still::{is_still, later, words_kept};
+use crate::words::{bytes_of, first_word, word_of};
+use page_model::Tint;
+
+/// Where the latest chains of eight changes start that ended before the next frame.
+#[derive(Clone, Copy)]
+struct LatestChains {
+    possible: u8,
+    sure: u8,
+}
+
+/// Where they start, seen from the next frame.
+fn chains_before(row: &[u64], rate: u16, turn: u32) -> LatestChains
+    requires limit { rate ≤ 240 }
+    requires room { 9 * (rate + 1) ≤ length row.now }
+    ensures possible { IsEndedAfter rate row.now turn false result.possible }
+    ensures sure { IsEndedAfter rate row.now turn true result.sure }
+{
+    if turn == 0 {
+        let none = rate as u8 + 1;
+        return LatestChains {
+            possible: none,
+            sure: none,
+        };
+    }
+    let place = last_place(rate, turn);
+    let bytes = bytes_of(row[9 * place]);
+    LatestChains {
+        possible: later(bytes[6], rate),
+        sure: later(bytes[7], rate),
+    }
+}
+
+/// The words of the next frame, by looking back on all frames of the window.
+fn words_after(row: &[u64], rate: u16, turn: u32, tint: Tint) -> [u64; 9]
+    requires some { 1 ≤ rate }
+    requires limit { rate ≤ 240 }
+    requires room { 9 * (rate + 1) ≤ length row.now }
+    ensures { TellAfter rate row.now turn tint result }
+{
+    let rise = starts_of(row, rate, turn, tint, Change::PossibleRise);
+    let fall = starts_of(row, rate, turn, tint, Change::PossibleFall);
+    let sure_rise = starts_of(row, rate, turn, tint, Change::SureRise);
+    let sure_fall = starts_of(row, rate, turn, tint, Change::SureFall);
+    let ended = chains_before(row, rate, turn);
+    let possible = ended.possible.min(rise[7]).min(fall[7]);
+    let sure = ended.sure.min(sure_rise[7]).min(sure_fall[7]);
+    [
+        first_word(tint, possible, sure),
+        word_of(rise),
+        word_of(fall),
+        word_of(sure_rise),
+        word_of(sure_fall),
+        0,
+        0,
+        0,
+        0,
+    ]
+}
+
+/// The words of the next frame.
+pub(crate) fn next_words(row: &[u64], rate: u16, turn: u32, tint: Tint) -> [u64; 9]
+    requires some { 1 ≤ rate }
+    requires limit { rate ≤ 240 }
+    requires room { 9 * (rate + 1) ≤ length row.now }
+    ensures { TellAfter rate row.now turn tint result }
+{
+    if is_still(row, rate, turn, tint) {
+        words_kept(row, rate, turn, tint)
+    } else {
+        words_after(row, rate, turn, tint)
+    }
+}

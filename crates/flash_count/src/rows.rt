@@ -1,0 +1,69 @@
+// Rows of words that stand for the tints of a pixel, and one push into them.
+ghost use Rattle.std.specs.Prelude.{ℕ, List, ◌≡◌, ◌⊎◌, ◌↔◌, IsTrue, ◌+◌, ◌*◌, ◌^◌, ◌<◌, ◌≤◌, ◌++◌, ◌∷◌, [], length, slice_index};
+ghost use Rattle.page_model.specs.declared.colour.Tint.{Tint};
+ghost use Rattle.flash_count.specs.Rows.{StandsFor, byte};
+ghost use Rattle.flash_count.specs.Tracked.{Tells, last_of};
+
+use crate::next::next_words;
+use crate::tracking::Flag;
+use crate::words::bytes_of;
+use page_model::Tint;
+
+/// How many words a row has for a rate in frames per second: nine for each frame of a window.
+pub fn row_words(rate: u16) -> u32
+    requires some { 1 ≤ rate }
+    requires limit { rate ≤ 240 }
+    ensures { result ≡ 9 * (rate + 1) }
+{
+    9 * (u32::from(rate) + 1)
+}
+
+/// Makes a row stand for no tints.
+pub fn row_begin(row: &mut [u64], rate: u16)
+    requires some { 1 ≤ rate }
+    requires limit { rate ≤ 240 }
+    requires room { 9 * (rate + 1) ≤ length row.old }
+    ensures { StandsFor rate [] row.new }
+{
+    row.fill(0);
+}
+
+/// Writes the words of a frame at its place.
+fn put(row: &mut [u64], place: usize, words: &[u64; 9])
+    requires { 9 * place + 9 ≤ length row.old }
+    ensures long { length row.new ≡ length row.old }
+    ensures there { (i : ℕ) → i < 9 → slice_index row.new (9 * place + i) ≡ slice_index words.now i }
+    ensures others { (i : ℕ) → (i < 9 * place) ⊎ (9 * place + 9 ≤ i) → slice_index row.new i ≡ slice_index row.old i }
+{
+    for i in 0..9 {
+        row[9 * place + i] = words[i];
+    }
+}
+
+/// The flag by a frame's first word.
+fn flag_in(word: u64, rate: u16) -> Flag
+    ensures possible { IsTrue result.possible ↔ (byte word 6 ≤ rate) }
+    ensures sure { IsTrue result.sure ↔ (byte word 7 ≤ rate) }
+{
+    let bytes = bytes_of(word);
+    Flag {
+        possible: u16::from(bytes[6]) <= rate,
+        sure: u16::from(bytes[7]) <= rate,
+    }
+}
+
+/// Adds the tint of the next frame to a row that stands for so many tints, and tells whether the
+/// last of them, one more than the rate or all, have a chain of possible changes, and whether they
+/// have one of sure changes.
+pub fn row_push(row: &mut [u64], rate: u16, turn: u32, tint: Tint) -> Flag
+    requires some { 1 ≤ rate }
+    requires limit { rate ≤ 240 }
+    requires room { 9 * (rate + 1) ≤ length row.old }
+    requires few { turn < 2 ^ 31 }
+    ensures stands { (tints : List Tint) → length tints ≡ turn → StandsFor rate tints row.old → StandsFor rate (tints ++ tint ∷ []) row.new }
+    ensures flag { (tints : List Tint) → length tints ≡ turn → StandsFor rate tints row.old → Tells (last_of (rate + 1) (tints ++ tint ∷ [])) result }
+{
+    let words = next_words(row, rate, turn, tint);
+    put(row, turn as usize % (usize::from(rate) + 1), &words);
+    flag_in(words[0], rate)
+}
