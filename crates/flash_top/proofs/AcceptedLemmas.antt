@@ -4,7 +4,6 @@ use Rattle.page_model.specs.Viewing.{Viewing}
 use Rattle.page_model.specs.declared.scene.Scene.{Scene}
 use Rattle.page_model.specs.declared.witness.Witness.{Witness}
 use Rattle.page_judge.specs.Judgement.{can_be_judged}
-use Rattle.page_judge.proofs.JudgedLemmas.{grey-of}
 use Rattle.witness_checks.specs.Faults.{IsFirstFault, condition_of}
 use Rattle.witness_checks.specs.declared.fault.WitnessFault.{WitnessFault}
 use Rattle.witness_checks.proofs.JudgementLemmas.{fault-refutes}
@@ -72,7 +71,7 @@ good_or_faulty : (setup : Viewing) (scene : Scene) (text : List ℕ) (fault : Wi
 good_or_faulty setup scene text fault start area faulty good =
     let same : faulty.witness ≡ good.witness = one_witness text faulty.witness good.witness faulty.is_file.is_text good.is_file.is_text in
     let first = subst (λ (witness : Witness). IsFirstFault scene setup witness fault) same faulty.holds in
-    fault-refutes scene setup good.witness fault first (inr (grey-of scene good.judged)) good.holds.accepted
+    fault-refutes scene setup good.witness fault first good.holds.accepted
 
 -- one that isn't has first faults of one condition
 faulty_once : (setup : Viewing) (scene : Scene) (text : List ℕ) (fault other : WitnessFault) → HasWitness scene text (λ witness. IsFirstFault scene setup witness fault)

@@ -13,7 +13,6 @@ use Rattle.page_model.specs.Enclosure.{LooseRun, own}
 use Rattle.page_model.specs.Time.{window_of}
 use Rattle.page_model.specs.TintOf.{IsLooseRunIn, tints_of}
 use Rattle.page_model.specs.WitnessConditions.{AlternatesSurely, FramesRise, FramesWithin, HasArea, HasEnough, HasSetup, HasTints, IsOfPart, LiesInside, PartsApart, PartsInside, TintsHold}
-use Rattle.frame_state.specs.Scenes.{is_coloured}
 use Rattle.witness_checks.specs.declared.fault.WitnessFault.{WitnessFault}
 use Rattle.witness_checks.specs.declared.fault.WitnessFault.TheVariants.{OtherSetup, PartOutside, PartsOverlap, WrongArea, SmallArea, FramesOrder, FramesOutside, WrongTint, NotChange}
 
@@ -84,15 +83,11 @@ pub record IsFirstUnchanged (kind : Kind) (tints : List Tint) (turn : ℕ) : Typ
   pub held : AlternatesSurely kind (take turn tints)
   pub broken : AlternatesSurely kind (take (turn + 1) tints) → ⊥
 
--- the same of a part by its own kind; red isn't judged yet, so of a red part the first turn is told, and it is so in a scene without colours
-abbrev pub StopsAt : Bool → Kind → List Tint → ℕ → Type 0
-StopsAt coloured General tints turn = IsFirstUnchanged General tints turn
-StopsAt coloured Red tints turn = (turn ≡ 1) × (coloured ≡ false → IsFirstUnchanged Red tints turn)
-
-pub record IsFirstNoChange (coloured : Bool) (parts : List Part) (number turn : ℕ) : Type 0 where
+-- the first part whose tints cease to change, each by its own kind
+pub record IsFirstNoChange (parts : List Part) (number turn : ℕ) : Type 0 where
   pub part : Part
   pub there : slice_get parts number ≡ Some part
-  pub stops : StopsAt coloured part.kind part.tints turn
+  pub stops : IsFirstUnchanged part.kind part.tints turn
   pub before : (k : ℕ) (other : Part) → k < number → slice_get parts k ≡ Some other → AlternatesSurely other.kind other.tints
 
 -- the first three conditions hold, the first five, the first seven, and the first eight
@@ -157,7 +152,7 @@ pub record IsWrongTint (scene : Scene) (setup : Setup) (w : Witness) (part turn 
 
 pub record IsNoChange (scene : Scene) (setup : Setup) (w : Witness) (part turn : ℕ) : Type 0 where
   pub tinted : IsTinted scene setup w
-  pub first : IsFirstNoChange (is_coloured scene) w.parts part turn
+  pub first : IsFirstNoChange w.parts part turn
 
 -- a fault is told where its condition is the first that fails
 abbrev pub IsFirstFault : Scene → Setup → Witness → WitnessFault → Type 0

@@ -1,11 +1,8 @@
 -- What testing a witness answers.
-use Rattle.std.specs.Prelude.{◌≡◌, false, ◌⊎◌, All, Result, Ok, Err}
+use Rattle.std.specs.Prelude.{◌≡◌, Result, Ok, Err}
 use Rattle.page_model.specs.declared.scene.Scene.{Scene}
 use Rattle.page_model.specs.declared.setup.Setup.{Setup}
-use Rattle.page_model.specs.declared.witness.Kind.TheVariants.{General}
-use Rattle.page_model.specs.declared.witness.Part.{Part}
 use Rattle.page_model.specs.declared.witness.Witness.{Witness}
-use Rattle.frame_state.specs.Scenes.{is_coloured}
 use Rattle.witness_laws.specs.Acceptance.{IsAccepted}
 use Rattle.witness_checks.specs.Faults.{IsFirstFault, condition_of}
 use Rattle.witness_checks.specs.declared.fault.WitnessFault.{WitnessFault}
@@ -14,10 +11,6 @@ use Rattle.witness_checks.specs.declared.fault.WitnessFault.{WitnessFault}
 abbrev pub IsTested : Scene → Setup → Witness → Result (Unit {0}) WitnessFault → Type 0
 IsTested scene setup w (Ok nothing) = IsAccepted scene setup w
 IsTested scene setup w (Err fault) = IsFirstFault scene setup w fault
-
--- red isn't judged yet: the parts are general ones, or the scene has no colours and so no red
-abbrev pub NeedsNoRed : Scene → Witness → Type 0
-NeedsNoRed scene w = All (λ (part : Part). part.kind ≡ General) w.parts ⊎ (is_coloured scene ≡ false)
 
 -- some of the conditions hold, or a fault of theirs is the first, whatever the scene is
 abbrev pub AreTested : (Setup → Witness → Type 0) → Setup → Witness → Result (Unit {0}) WitnessFault → Type 0

@@ -5,7 +5,7 @@ ghost use Rattle.page_model.specs.ValidScene.{IsValid};
 ghost use Rattle.frame_state.specs.Scenes.{CanBePainted};
 ghost use Rattle.witness_laws.specs.Acceptance.{IsAccepted};
 ghost use Rattle.witness_checks.specs.Faults.{IsTimed};
-ghost use Rattle.witness_checks.specs.Judgement.{IsTested, NeedsNoRed};
+ghost use Rattle.witness_checks.specs.Judgement.{IsTested};
 
 use crate::area::test_area;
 use crate::change::first_stop;
@@ -48,15 +48,14 @@ fn test_tints(scene: &Scene, setup: &Setup, witness: &Witness) -> Result<(), Wit
 ///
 /// # Errors
 ///
-/// The first condition that fails, at the first place where it does. In a scene with colours a part of red is refused too, since red
-/// isn't judged yet.
+/// The first condition that fails, at the first place where it does.
 pub fn accepts(scene: &Scene, setup: &Setup, witness: &Witness) -> Result<(), WitnessFault>
     requires valid { IsValid scene.now }
     requires painted { CanBePainted scene.now }
     requires few { length witness.now.parts < 2 ^ 32 }
     ensures tested { IsTested scene.now setup.now witness.now result }
     ensures bad { OnOk result (IsBadWindow scene.now setup.now witness.now.start witness.now.x witness.now.y) }
-    ensures exactly { NeedsNoRed scene.now witness.now → IsAccepted scene.now setup.now witness.now → result ≡ Ok tt }
+    ensures exactly { IsAccepted scene.now setup.now witness.now → result ≡ Ok tt }
 {
     test_place(setup, witness)?;
     test_area(setup, witness)?;

@@ -6,8 +6,7 @@
 //! where all nine conditions hold, and then the window is bad at the stated position; a fault is the first condition that fails, at the
 //! first place where it does, and all faults that can be told of a witness are of one condition ([`one_condition`]).
 //!
-//! How a witness is written and read is `flash_witness`'s to say. Red flashes aren't judged yet: a part of that kind is refused, which
-//! is right in scenes without colours.
+//! How a witness is written and read is `flash_witness`'s to say.
 #![tactic(auto)]
 
 mod accepting;
@@ -19,8 +18,6 @@ mod kept;
 mod laws;
 mod overlap;
 mod place;
-#[cfg(test)]
-mod tests;
 mod tints;
 
 pub use accepting::accepts;
