@@ -1,5 +1,5 @@
 -- The flag of one pixel of a cell is that of each of its pixels.
-use Rattle.std.proofs.Common.{◌≡◌, ◌∙◌, ℕ, ◌+◌, ◌-◌, ◌*◌, ◌/◌, ◌%◌, ◌<◌, ◌≤◌, List, slice_get, Some, ap, arith, inl, inr, refl, subst}
+use Rattle.std.proofs.Common.{◌≡◌, ◌∙◌, ℕ, ◌+◌, ◌-◌, ◌*◌, ◌/◌, ◌%◌, ◌<◌, ◌≤◌, List, length, slice_get, Some, ap, arith, inl, inr, refl, subst}
 use Rattle.std.specs.Prelude.{◌↔◌, ◌⊎◌, false}
 use Rattle.std.proofs.Math.Nat.{mul-div-le, mul-le-mul_left}
 use Rattle.std.proofs.lemmas.Bool.{cases_lt}
@@ -9,14 +9,15 @@ use Rattle.page_model.specs.declared.scene.Scene.{Scene}
 use Rattle.page_model.specs.declared.setup.Setup.{Setup}
 use Rattle.page_model.specs.Cells.{cells_between}
 use Rattle.page_model.specs.Change.{IsPossibleFall, IsPossibleRise, IsSingle, IsSureFall, IsSureRise}
-use Rattle.page_model.specs.Enclosure.{LooseRun, own}
+use Rattle.page_model.specs.Enclosure.{LooseRun, LooseState, own}
 use Rattle.page_model.specs.Horizon.{frames_for}
 use Rattle.page_model.specs.Time.{window_of}
-use Rattle.page_model.specs.TintOf.{IsLooseRunIn, tints_of}
+use Rattle.page_model.specs.TintOf.{IsLooseRunIn, covers_surely, tint_of, tints_of}
 use Rattle.page_model.specs.ValidScene.{IsValid}
 use Rattle.flash_count.specs.declared.tracking.Flag.{Flag}
 use Rattle.flash_count.proofs.SeenLemmas.{IsSeen, has_chain-seen}
 use Rattle.frame_state.specs.Scenes.{is_coloured}
+use Rattle.frame_state.specs.States.{AreOwn}
 use Rattle.region_split.specs.Cutting.{Edges, IsCut, IsInside, bands, cell_of}
 use Rattle.region_split.specs.Sound.{AreSound}
 use Rattle.wide_laws.proofs.LooseLemmas.{loose_state-unique}
@@ -24,7 +25,7 @@ use Rattle.cell_tints.specs.Tints.{AreTintsOfCells, IsOwnTint}
 use Rattle.cell_flags.specs.Flags.{AreFlags, AreFlagsBefore, IsFlagAt, IsFlagOf}
 use Rattle.grey_laws.proofs.RedLemmas.{never-possibly_red, never-surely_red}
 use Rattle.cell_flags.proofs.RunLemmas.{covers-alike}
-use Rattle.grey_laws.proofs.TintLemmas.{tint-alike}
+use Rattle.tint_laws.proofs.AlikeLemmas.{tint-alike}
 
 div-below : (i across down : ℕ) → i < across * down → 0 < across → i / across < down
 div-below i across down below some =
@@ -50,6 +51,37 @@ corner-inside xs ys i columns rows known =
       above = omega arith;
     }
 
+-- by states of the own kind, whichever, two pixels of a cell have one tint
+pub own-alike : (scene : Scene) (setup : Setup) (frames : ℕ) (edges : Edges) (i frame column row other_column other_row : ℕ)
+    (loose other : ℕ → LooseState) → IsValid scene → IsCut scene setup frames edges → i < cells_between edges.xs edges.ys → frame < frames
+    → AreOwn scene setup frame loose → AreOwn scene setup frame other
+    → IsInside (cell_of edges.xs edges.ys i) column row → IsInside (cell_of edges.xs edges.ys i) other_column other_row
+    → tint_of scene loose column row ≡ tint_of scene other other_column other_row
+own-alike scene setup frames edges i frame column row other_column other_row loose other valid cut known less first second one two =
+    let Same : ℕ → Type 0 = λ number. loose number ≡ other number in
+    let same : (number : ℕ) → number < length scene.layers → Same number =
+    λ number below.
+    elim (slice_get_cases scene.layers number).1 [
+      | inl found ↦
+        loose_state-unique own scene setup frame found.0 (loose number) (other number) (first number found.0 found.2)
+        (second number found.0 found.2)
+      | inr past ↦ absurd (let far = past.0 in omega arith)
+    ] in
+    tint-alike scene loose other column row other_column other_row valid (record {
+      body = same 0 (omega (arith, valid.some_layer));
+      boxes = λ number some below. record {
+        same = same number below;
+        alike =
+            elim (slice_get_cases scene.layers number).1 [
+              | inl found ↦
+                covers-alike scene setup frames edges frame number found.0 (loose number) i column row other_column other_row cut less below
+                found.2 (first number found.0 found.2) known one two
+                ∙ ap (λ (state : LooseState). covers_surely state other_column other_row) (same number below)
+              | inr past ↦ absurd (let far = past.0 in omega arith)
+            ];
+      };
+    })
+
 -- a pixel of the cell has the tint that was seen
 seen-tint : (scene : Scene) (setup : Setup) (frames : ℕ) (edges : Edges) (i start k column row : ℕ) (run : LooseRun) (tint : Tint) → IsValid scene
     → IsCut scene setup frames edges → i < cells_between edges.xs edges.ys → start + k < frames → k ≤ window_of setup
@@ -59,17 +91,9 @@ seen-tint : (scene : Scene) (setup : Setup) (frames : ℕ) (edges : Edges) (i st
 seen-tint scene setup frames edges i start k column row run tint valid cut known less within is inside seen =
     let x : ℕ = (cell_of edges.xs edges.ys i).x in
     let y : ℕ = (cell_of edges.xs edges.ys i).y in
-    seen.is ∙ tint-alike scene seen.states (run (start + k)) x y column row valid (λ number below.
-    elim (slice_get_cases scene.layers number).1 [
-      | inl found ↦ record {
-        same = loose_state-unique own scene setup (start + k) found.0 (seen.states number) (run (start + k) number)
-            (seen.own_states number found.0 found.2) (is (start + k) number found.0 (omega arith) (omega arith) found.2);
-        alike = covers-alike scene setup frames edges (start + k) number found.0 (seen.states number) i x y column row cut less below found.2
-            (seen.own_states number found.0 found.2) known
-            (corner-inside edges.xs edges.ys i cut.sound.columns cut.sound.rows known) inside;
-      }
-      | inr past ↦ absurd (let far = past.0 in omega arith)
-    ])
+    seen.is ∙ own-alike scene setup frames edges i (start + k) x y column row seen.states (run (start + k)) valid cut known less seen.own_states
+    (λ number layer there. is (start + k) number layer (omega arith) (omega arith) there)
+    (corner-inside edges.xs edges.ys i cut.sound.columns cut.sound.rows known) inside
 
 -- so the tints that were seen are the pixel's, each of them one colour
 pub record AreSeen (scene : Scene) (setup : Setup) (start column row : ℕ) (run : LooseRun) (tints : List Tint) : Type 0 where

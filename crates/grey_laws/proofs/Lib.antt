@@ -1,3 +1,2 @@
-pub mod TintLemmas
 pub mod GreyLemmas
 pub mod RedLemmas

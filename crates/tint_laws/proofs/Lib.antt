@@ -1,3 +1,4 @@
+pub mod AlikeLemmas
 pub mod BlendLemmas
 pub mod CourseLemmas
 pub mod KindLemmas

@@ -1,3 +1,4 @@
+pub mod AlikeLaws
 pub mod NestLaws
 pub mod TintLaws
 pub mod WindowLaws

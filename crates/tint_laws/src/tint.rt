@@ -1,4 +1,5 @@
 // Laws of tints.
+ghost use Rattle.tint_laws.specs.AlikeLaws.{AlikePixelsHaveOneTint};
 ghost use Rattle.tint_laws.specs.TintLaws.{TintsHoldColours, TintsHoldTints};
 
 /// The exact colour of a pixel lies in its tint, where the exact states of the layers lie in the
@@ -14,4 +15,10 @@ pub fn tints_hold_colours()
 /// refused.
 pub fn tints_hold_tints()
     ensures { TintsHoldTints }
+{}
+
+/// Two pixels that each box covers alike have one tint, by the same states. A tint that depends on
+/// where the pixel lies in a box, as with a gradient, would be refused.
+pub fn alike_pixels_have_one_tint()
+    ensures { AlikePixelsHaveOneTint }
 {}

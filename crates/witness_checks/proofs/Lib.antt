@@ -5,3 +5,4 @@ pub mod OneLemmas
 pub mod OverlapLemmas
 mod TintLemmas
 pub mod TurnLemmas
+mod UncutLemmas

@@ -19,28 +19,10 @@ use Rattle.page_model.specs.Time.{window_of}
 use Rattle.page_model.specs.WitnessConditions.{HasTints, LiesInside}
 use Rattle.frame_state.specs.States.{AreOwn}
 use Rattle.paint_blend.specs.Paint.{box_over}
+use Rattle.tint_laws.proofs.AlikeLemmas.{tint-same}
 use Rattle.wide_laws.proofs.LooseLemmas.{loose_state-unique}
 use Rattle.witness_checks.specs.Faults.{HaveTintsBefore, IsFirstWrongPixel, IsFirstWrongTint, IsTimed, LiesInWindow}
 use Rattle.witness_checks.specs.OwnTints.{AllHaveTint, IsFirstWrongOf, IsFirstWrongTurn, IsOwnIn}
-
-boxes-same : (loose other : ℕ → LooseState) (column row : ℕ) (order : List ℕ) (tint : Tint) → All (λ number. loose number ≡ other number) order
-    → fold (tint_box loose column row) tint order ≡ fold (tint_box other column row) tint order
-boxes-same loose other column row [] tint same = refl
-boxes-same loose other column row (number ∷ rest) tint same =
-    let Same : ℕ → Type 0 = λ n. loose n ≡ other n in
-    ap (λ (t : Tint). fold (tint_box loose column row) t rest)
-    (ap (λ (state : LooseState). box_over state column row tint) (All-head Same number rest same))
-    ∙ boxes-same loose other column row rest (tint_box other column row tint number) (All-tail Same number rest same)
-
-tint-same : (scene : Scene) (loose other : ℕ → LooseState) (column row : ℕ) → IsValid scene
-    → ((number : ℕ) → number < length scene.layers → loose number ≡ other number) → tint_of scene loose column row ≡ tint_of scene other column row
-tint-same scene loose other column row valid same =
-    ap (λ (s : LooseState).
-    fold (tint_box loose column row)
-    (if is_some (body_colour scene) then tint_by (span_of s.red) (span_of s.green) (span_of s.blue) else single white) scene.order)
-    (same 0 (omega (arith, valid.some_layer)))
-    ∙ boxes-same loose other column row scene.order (tint_ground scene other)
-    (λ k d within. same (get_or scene.order k d) ((valid.order.boxes (get_or scene.order k d)).0 (All-contains_itself scene.order k d within)).1)
 
 -- states of the own kind give one tint
 pub own-tint-same : (scene : Scene) (setup : Setup) (frame : ℕ) (loose other : ℕ → LooseState) → IsValid scene → AreOwn scene setup frame loose

@@ -4,3 +4,4 @@ pub mod Kept
 pub mod OwnTints
 pub mod Places
 pub mod Turns
+pub mod Uncut

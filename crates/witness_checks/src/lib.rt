@@ -19,6 +19,7 @@ mod laws;
 mod overlap;
 mod place;
 mod tints;
+mod uncut;
 
 pub use accepting::accepts;
 pub use fault::WitnessFault;

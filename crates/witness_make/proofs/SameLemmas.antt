@@ -1,16 +1,16 @@
 -- All pixels of a cell have one tint in each frame of a window, and so flash alike.
 use Rattle.std.proofs.Common.{◌≡◌, ◌∙◌, ℕ, ◌+◌, ◌<◌, ◌≤◌, List, length, get_or, Some, ap, arith, inl, inr, subst}
 use Rattle.std.specs.Prelude.{false}
-use Rattle.std.proofs.lemmas.Option.{slice_get-get_or, slice_get_cases}
+use Rattle.std.proofs.lemmas.Option.{slice_get-get_or}
 use Rattle.page_model.specs.declared.colour.Tint.{Tint}
 use Rattle.page_model.specs.declared.scene.Scene.{Scene}
 use Rattle.page_model.specs.declared.setup.Setup.{Setup}
 use Rattle.page_model.specs.Cells.{cells_between}
 use Rattle.page_model.specs.Change.{IsSureFall, IsSureRise}
-use Rattle.page_model.specs.Enclosure.{LooseRun, LooseState, own}
+use Rattle.page_model.specs.Enclosure.{LooseRun, own}
 use Rattle.page_model.specs.Flash.{Between}
 use Rattle.page_model.specs.Time.{window_of}
-use Rattle.page_model.specs.TintOf.{IsLooseRunIn, tint_of, tints_of}
+use Rattle.page_model.specs.TintOf.{IsLooseRunIn, tints_of}
 use Rattle.page_model.specs.ValidScene.{IsValid}
 use Rattle.page_model.specs.Window.{IsSurelyFlagged, SurelyInto, SurelyOut}
 use Rattle.flash_count.specs.Chains.{HasSureChain}
@@ -20,31 +20,12 @@ use Rattle.flash_laws.proofs.ChainLemmas.{has_chain-carried}
 use Rattle.frame_state.specs.Scenes.{is_coloured}
 use Rattle.frame_state.specs.States.{AreOwn}
 use Rattle.region_split.specs.Cutting.{Edges, IsCut, IsInside, cell_of}
-use Rattle.wide_laws.proofs.LooseLemmas.{loose_run-met, loose_state-unique}
+use Rattle.wide_laws.proofs.LooseLemmas.{loose_run-met}
 use Rattle.cell_tints.specs.Tints.{IsOwnTint}
-use Rattle.cell_flags.proofs.FlagLemmas.{corner-inside}
+use Rattle.cell_flags.proofs.FlagLemmas.{corner-inside, own-alike}
 use Rattle.grey_laws.proofs.RedLemmas.{never-surely_red}
-use Rattle.cell_flags.proofs.RunLemmas.{covers-alike}
-use Rattle.grey_laws.proofs.TintLemmas.{tint-alike}
 use Rattle.witness_make.specs.Made.{AreCutsOf, AreSurelyFlagged}
 use Rattle.witness_make.specs.Turns.{AreTintsFrom, no_tint}
-
--- by states of the own kind, whichever, two pixels of a cell have one tint
-states-alike : (scene : Scene) (setup : Setup) (frames : ℕ) (edges : Edges) (frame i column row other_column other_row : ℕ) (loose other : ℕ → LooseState)
-    → IsValid scene → IsCut scene setup frames edges → i < cells_between edges.xs edges.ys → frame < frames
-    → AreOwn scene setup frame loose → AreOwn scene setup frame other
-    → IsInside (cell_of edges.xs edges.ys i) column row → IsInside (cell_of edges.xs edges.ys i) other_column other_row
-    → tint_of scene loose column row ≡ tint_of scene other other_column other_row
-states-alike scene setup frames edges frame i column row other_column other_row loose other valid cut known less first second one two =
-    tint-alike scene loose other column row other_column other_row valid (λ number below.
-    elim (slice_get_cases scene.layers number).1 [
-      | inl found ↦ record {
-        same = loose_state-unique own scene setup frame found.0 (loose number) (other number) (first number found.0 found.2) (second number found.0 found.2);
-        alike = covers-alike scene setup frames edges frame number found.0 (loose number) i column row other_column other_row cut less below found.2
-            (first number found.0 found.2) known one two;
-      }
-      | inr past ↦ absurd (let far = past.0 in omega arith)
-    ])
 
 run-own : (scene : Scene) (setup : Setup) (start frame : ℕ) (run : LooseRun) → IsLooseRunIn own scene setup start run → start ≤ frame
     → frame ≤ start + window_of setup → AreOwn scene setup frame (run frame)
@@ -58,7 +39,7 @@ pub seen-tint : (scene : Scene) (setup : Setup) (edges : Edges) (start i k colum
     → tint ≡ tints_of scene run (start + k) column row
 seen-tint scene setup edges start i k column row tint run valid cuts known within is inside seen =
     let cover = cuts.cover in
-    seen.is ∙ states-alike scene setup cuts.frames edges (start + k) i (cell_of edges.xs edges.ys i).x (cell_of edges.xs edges.ys i).y column row
+    seen.is ∙ own-alike scene setup cuts.frames edges i (start + k) (cell_of edges.xs edges.ys i).x (cell_of edges.xs edges.ys i).y column row
     seen.states (run (start + k)) valid cuts.cut known (omega arith) seen.own_states
     (run-own scene setup start (start + k) run is (omega arith) (omega arith))
     (corner-inside edges.xs edges.ys i cuts.cut.sound.columns cuts.cut.sound.rows known) inside
@@ -113,7 +94,7 @@ flagged-all scene setup edges start i column row run valid cuts known is inside 
     let seen : ℕ → Tint = λ frame. tints_of scene run frame column row in
     let there : ℕ → Tint = λ frame. tints_of scene other frame other_column other_row in
     let same : (frame : ℕ) → start ≤ frame → frame ≤ start + window_of setup → seen frame ≡ there frame = λ frame low high.
-    states-alike scene setup cuts.frames edges frame i column row other_column other_row (run frame) (other frame) valid cuts.cut known
+    own-alike scene setup cuts.frames edges i frame column row other_column other_row (run frame) (other frame) valid cuts.cut known
     (let cover = cuts.cover in omega arith) (run-own scene setup start frame run is low high) (run-own scene setup start frame other other_is low high)
     inside other_inside in
     elim flagged [
