@@ -1,0 +1,3 @@
+mod CoordinateLemmas
+mod GapLemmas
+mod SaturationLemmas
