@@ -9,7 +9,7 @@ use Rattle.paint_blend.specs.Paint.{computed_states}
 use Rattle.page_judge.specs.Judgement.{IsJudgement}
 use Rattle.page_judge.specs.declared.types.Judgement.{Judgement}
 use Rattle.page_judge.specs.declared.types.Judgement.TheVariants.{NotYet as Unjudged, Pass as Passed, Fail as Failed, Frames, Work, Enclosure}
-use Rattle.page_judge.proofs.OneLemmas.{one-judgement}
+use Rattle.page_judge.proofs.OneLemmas.{one-answer}
 use Rattle.flash_top.specs.Refusals.{IsLoadedAs}
 use Rattle.flash_top.specs.SameAnswers.{AreEqual, OneTint, OneVerdict, TellSame}
 use Rattle.flash_top.specs.Steps.{IsRefusedAs, told}
@@ -70,7 +70,7 @@ one_verdict setup bytes one other is also =
     (λ scene first second. inr (record {
       first = first.judgement;
       second = second.judgement;
-      same = one-judgement scene setup first.judgement second.judgement first.judged second.judged;
+      same = one-answer scene setup first.judgement second.judgement first.judged second.judged;
       first_is = first.told_is;
       second_is = second.told_is;
     }))

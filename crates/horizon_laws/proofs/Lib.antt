@@ -1,5 +1,6 @@
 pub mod DivisionLemmas
 pub mod ElapsedLemmas
+pub mod EnoughLemmas
 pub mod LeastLemmas
 pub mod PeriodLemmas
 pub mod RepeatLemmas

@@ -1,6 +1,6 @@
 -- A layer's course depends on the progress of its animations alone, so behind the settled frame its state repeats.
-use Rattle.std.proofs.Common.{◌≡◌, ℕ, zero, suc, ◌+◌, ◌<◌, ◌≤◌, List, [], ◌∷◌, ◌++◌, length, refl, ap, subst}
-use Rattle.std.specs.Prelude.{pos, Option, Some, All, filter_map, slice_get, slice_index_or, option_and_then, if◌then◌else◌}
+use Rattle.std.proofs.Common.{◌≡◌, ℕ, zero, suc, ◌+◌, ◌<◌, ◌≤◌, List, [], ◌∷◌, ◌++◌, length, refl, ap, subst, sym}
+use Rattle.std.specs.Prelude.{◌↔◌, pos, Option, Some, All, filter_map, slice_get, slice_index_or, option_and_then, if◌then◌else◌}
 use Rattle.std.proofs.lemmas.List.Elements.{All-head, All-tail, All-take, All-drop}
 use Rattle.std.proofs.Math.Seq.{take-append_seam, drop-append_seam}
 use Rattle.page_model.specs.declared.setup.Setup.{Setup}
@@ -11,6 +11,7 @@ use Rattle.page_model.specs.declared.property.Prop.TheVariants.{Background, Opac
 use Rattle.page_model.specs.declared.property.Value.{Value}
 use Rattle.page_model.specs.declared.scene.Layer.{Layer}
 use Rattle.page_model.specs.declared.scene.Scene.{Scene}
+use Rattle.page_model.specs.Enclosure.{IsLooseOn, IsLooseStateAt, IsSurelyShownWith, Kind, LooseState}
 use Rattle.page_model.specs.Horizon.{IsHorizon, all_animations, animations_of}
 use Rattle.page_model.specs.Keyframes.{Interval, interval_of, last_of}
 use Rattle.page_model.specs.LayerAt.{still, State, IsShownWith, IsStateAt, IsValueOn, alpha_of, blue_of, course_by, course_of, declared, green_of, interval_at, is_held, length_of, red_of}
@@ -18,6 +19,7 @@ use Rattle.page_model.specs.Progress.{progress_of}
 use Rattle.page_model.specs.Slot.{alpha, channel, extent, position}
 use Rattle.page_model.specs.Time.{HasFrames}
 use Rattle.horizon_laws.proofs.RepeatLemmas.{repeats-together}
+use Rattle.horizon_laws.specs.ForeverLaws.{StatesRepeat}
 
 -- two parts of a list
 front : (P : Anim → Type 0) (xs ys : List Anim) → All P (xs ++ ys) → All P xs
@@ -61,7 +63,7 @@ course-same scene setup frame other layer prop all =
     (filtered (interval_at scene.sets setup frame prop own) (interval_at scene.sets setup other prop own) layer.anims
     (λ k d below. interval-same scene.sets setup frame other prop own (slice_index_or layer.anims k d) (all k d below)))
 
--- and so the same state
+-- and so the same state, exactly and by each kind
 state-carries :
     (scene : Scene) (setup : Setup) (frame other : ℕ) (layer : Layer) (state : State)
     → ((prop : Prop) → course_of scene setup frame layer prop ≡ course_of scene setup other layer prop)
@@ -78,12 +80,52 @@ state-carries scene setup frame other layer state same is = record {
   is_height = subst (λ x. IsValueOn extent length_of x state.height) (same Height) is.is_height;
 }
 
+loose_state-carries :
+    (kind : Kind) (scene : Scene) (setup : Setup) (frame other : ℕ) (layer : Layer) (state : LooseState)
+    → ((prop : Prop) → course_of scene setup frame layer prop ≡ course_of scene setup other layer prop)
+    → IsLooseStateAt kind scene setup frame layer state → IsLooseStateAt kind scene setup other layer state
+loose_state-carries kind scene setup frame other layer state same is = record {
+  is_red = subst (λ x. IsLooseOn kind channel red_of x state.red) (same Background) is.is_red;
+  is_green = subst (λ x. IsLooseOn kind channel green_of x state.green) (same Background) is.is_green;
+  is_blue = subst (λ x. IsLooseOn kind channel blue_of x state.blue) (same Background) is.is_blue;
+  is_alpha = subst (λ x. IsLooseOn kind alpha alpha_of x state.alpha) (same Opacity) is.is_alpha;
+  is_shown = subst (λ x. IsSurelyShownWith kind layer.colour x state.shown) (same Visibility) is.is_shown;
+  is_left = subst (λ x. IsLooseOn kind position length_of x state.left) (same Left) is.is_left;
+  is_top = subst (λ x. IsLooseOn kind position length_of x state.top) (same Top) is.is_top;
+  is_width = subst (λ x. IsLooseOn kind extent length_of x state.width) (same Width) is.is_width;
+  is_height = subst (λ x. IsLooseOn kind extent length_of x state.height) (same Height) is.is_height;
+}
+
+-- behind the settled frame each layer's courses repeat
+pub courses-repeat :
+    (scene : Scene) (setup : Setup) (settled period frame number : ℕ) (layer : Layer) → HasFrames setup
+    → IsHorizon setup (all_animations scene) settled period → settled ≤ frame → slice_get scene.layers number ≡ Some layer
+    → (prop : Prop) → course_of scene setup (frame + period) layer prop ≡ course_of scene setup frame layer prop
+courses-repeat scene setup settled period frame number layer rate horizon later there prop =
+    course-same scene setup (frame + period) frame layer prop
+    (of_layer (λ (anim : Anim). progress_of setup anim (frame + period) ≡ progress_of setup anim frame) scene.layers number layer
+    (repeats-together setup (all_animations scene) settled period frame rate horizon later) there)
+
 pub state-repeats :
     (scene : Scene) (setup : Setup) (settled period frame number : ℕ) (layer : Layer) (state : State) → HasFrames setup
     → IsHorizon setup (all_animations scene) settled period → settled ≤ frame → slice_get scene.layers number ≡ Some layer
-    → IsStateAt scene setup (frame + period) layer state → IsStateAt scene setup frame layer state
-state-repeats scene setup settled period frame number layer state rate horizon later there is =
-    let all = of_layer (λ (anim : Anim). progress_of setup anim (frame + period) ≡ progress_of setup anim frame) scene.layers number layer
-    (repeats-together setup (all_animations scene) settled period frame rate horizon later) there in
-    state-carries scene setup (frame + period) frame layer state
-    (λ prop. course-same scene setup (frame + period) frame layer prop all) is
+    → (IsStateAt scene setup (frame + period) layer state ↔ IsStateAt scene setup frame layer state)
+state-repeats scene setup settled period frame number layer state rate horizon later there =
+    let same = courses-repeat scene setup settled period frame number layer rate horizon later there in (
+      state-carries scene setup (frame + period) frame layer state same,
+      state-carries scene setup frame (frame + period) layer state (λ prop. sym (same prop)),
+    )
+
+pub loose_state-repeats :
+    (kind : Kind) (scene : Scene) (setup : Setup) (settled period frame number : ℕ) (layer : Layer) (state : LooseState)
+    → HasFrames setup → IsHorizon setup (all_animations scene) settled period → settled ≤ frame
+    → slice_get scene.layers number ≡ Some layer
+    → (IsLooseStateAt kind scene setup (frame + period) layer state ↔ IsLooseStateAt kind scene setup frame layer state)
+loose_state-repeats kind scene setup settled period frame number layer state rate horizon later there =
+    let same = courses-repeat scene setup settled period frame number layer rate horizon later there in (
+      loose_state-carries kind scene setup (frame + period) frame layer state same,
+      loose_state-carries kind scene setup frame (frame + period) layer state (λ prop. sym (same prop)),
+    )
+
+pub states-repeat : StatesRepeat
+states-repeat = record { exactly = state-repeats; loosely = loose_state-repeats }

@@ -1,18 +1,15 @@
--- A window's chains, flags and badness are those of the window one period earlier, of the painting one period later.
+-- A window's chains, flags and badness are those of the window one period earlier, of what is seen one period later: of any states and
+-- whatever is seen of them, so that exact and loose states share one proof.
 use Rattle.std.proofs.Common.{◌≡◌, ℕ, zero, suc, ◌+◌, ◌<◌, ◌≤◌, List, [], ◌∷◌, length, refl, arith, ap, sym, subst, ◌∙◌, inl, inr}
-use Rattle.std.specs.Prelude.{◌-◌, ℤ, All, map, slice_index_or}
+use Rattle.std.specs.Prelude.{◌-◌, ℤ, ◌⊎◌, ◌↔◌, All, Some, map, slice_get, slice_index_or}
 use Rattle.std.specs.List.Sorted.{IsStrictlyIncreasing}
 use Rattle.std.proofs.lemmas.Bool.{cases_lt}
 use Rattle.std.proofs.lemmas.List.Elements.{All-head, All-tail}
 use Rattle.page_model.specs.declared.setup.Setup.{Setup}
+use Rattle.page_model.specs.declared.scene.Layer.{Layer}
 use Rattle.page_model.specs.declared.scene.Scene.{Scene}
-use Rattle.page_model.specs.Colour.{Run, IsRunIn, IsSafeScene, painting_of}
-use Rattle.page_model.specs.Flash.{Alternates, AlternatesEitherWay, Between, HasChain, IsBad, IsChain, IsFlagged, colours_at}
-use Rattle.page_model.specs.Horizon.{IsHorizon, IsNeeded, all_animations}
-use Rattle.page_model.specs.Light.{IsFall, IsRise}
-use Rattle.page_model.specs.Red.{IsIntoRed, IsOutOfRed}
-use Rattle.page_model.specs.Time.{HasFrames, window_of}
-use Rattle.horizon_laws.proofs.StateLemmas.{state-repeats}
+use Rattle.page_model.specs.Flash.{Alternates, AlternatesEitherWay, Between, HasChain, HasManyFlagged, IsChain}
+use Rattle.page_model.specs.Time.{window_of}
 
 -- frames from a period on are earlier frames, each one period later
 abbrev later : ℕ → List ℕ → List ℕ
@@ -47,19 +44,35 @@ later-rising period js rising k below =
 abbrev seen_later : {C : Type 0} → ℕ → (ℕ → C) → ℕ → C
 seen_later period seen k = seen (k + period)
 
-pub later-alternates :
+later-rises : (period : ℕ) (js : List ℕ) → IsStrictlyIncreasing js → IsStrictlyIncreasing (later period js)
+later-rises period js rising k below =
+    let same = later-length period js in
+    let step = rising k (omega arith) in
+    let one = later-at period k 0 js (omega arith) in
+    let other = later-at period (k + 1) 0 js (omega arith) in
+    omega arith
+
+alternates-earlier :
     {C : Type 0} (One Other : C → C → Type 0) (seen : ℕ → C) (period : ℕ) (js : List ℕ)
     → Alternates (Between One seen) (Between Other seen) (later period js)
     → Alternates (Between One (seen_later period seen)) (Between Other (seen_later period seen)) js
-later-alternates One Other seen period [] h = tt
-later-alternates One Other seen period (j ∷ []) h = tt
-later-alternates One Other seen period (j ∷ (k ∷ js)) h = (h.0, later-alternates Other One seen period (k ∷ js) h.1)
+alternates-earlier One Other seen period [] h = tt
+alternates-earlier One Other seen period (j ∷ []) h = tt
+alternates-earlier One Other seen period (j ∷ (k ∷ js)) h = (h.0, alternates-earlier Other One seen period (k ∷ js) h.1)
 
-later-chain :
+alternates-later :
+    {C : Type 0} (One Other : C → C → Type 0) (seen : ℕ → C) (period : ℕ) (js : List ℕ)
+    → Alternates (Between One (seen_later period seen)) (Between Other (seen_later period seen)) js
+    → Alternates (Between One seen) (Between Other seen) (later period js)
+alternates-later One Other seen period [] h = tt
+alternates-later One Other seen period (j ∷ []) h = tt
+alternates-later One Other seen period (j ∷ (k ∷ js)) h = (h.0, alternates-later Other One seen period (k ∷ js) h.1)
+
+chain-earlier :
     {C : Type 0} (One Other : C → C → Type 0) (seen : ℕ → C) (start window period : ℕ) (frames : List ℕ)
     → IsChain (Between One seen) (Between Other seen) (start + period) window frames
     → HasChain One Other (seen_later period seen) start window
-later-chain One Other seen start window period frames chain =
+chain-earlier One Other seen start window period frames chain =
     let found = earlier period start frames (λ k d below. (chain.within k d below).0) in
     let js = found.0 in
     let within : All (λ k. (start + period ≤ k) × (k ≤ start + period + window)) (later period js) =
@@ -78,72 +91,178 @@ later-chain One Other seen start window period frames chain =
             let at = later-at period k d js below in
             (omega arith, omega arith);
         alternates = elim ways [
-          | inl a ↦ inl (later-alternates One Other seen period js a)
-          | inr b ↦ inr (later-alternates Other One seen period js b)
+          | inl a ↦ inl (alternates-earlier One Other seen period js a)
+          | inr b ↦ inr (alternates-earlier Other One seen period js b)
         ];
       },
     )
 
--- a run one period later
-abbrev run_later : ℕ → Run → Run
-run_later period run frame = run (frame + period)
+chain-later :
+    {C : Type 0} (One Other : C → C → Type 0) (seen : ℕ → C) (start window period : ℕ) (js : List ℕ)
+    → IsChain (Between One (seen_later period seen)) (Between Other (seen_later period seen)) start window js
+    → HasChain One Other seen (start + period) window
+chain-later One Other seen start window period js chain =
+    let same = later-length period js in (
+      later period js,
+      record {
+        nine = same ∙ chain.nine;
+        rising = later-rises period js chain.rising;
+        within = λ k d below.
+            let q = chain.within k d (omega arith) in
+            let lo = q.0 in
+            let hi = q.1 in
+            let at = later-at period k d js (omega arith) in
+            (omega arith, omega arith);
+        alternates = elim chain.alternates [
+          | inl a ↦ inl (alternates-later One Other seen period js a)
+          | inr b ↦ inr (alternates-later Other One seen period js b)
+        ];
+      },
+    )
 
-later-flagged :
-    (scene : Scene) (setup : Setup) (run : Run) (start period column row : ℕ)
-    → IsFlagged (painting_of scene run) setup (start + period) column row
-    → IsFlagged (painting_of scene (run_later period run)) setup start column row
-later-flagged scene setup run start period column row (inl light) =
-    inl (later-chain IsRise IsFall (colours_at (painting_of scene run) column row) start (window_of setup) period light.0 light.1)
-later-flagged scene setup run start period column row (inr red) =
-    inr (later-chain IsIntoRed IsOutOfRed (colours_at (painting_of scene run) column row) start (window_of setup) period red.0 red.1)
+-- a pixel has one of two sorts of chains, by what is seen of it
+abbrev pub FlaggedBy : {C : Type 0} → (C → C → Type 0) → (C → C → Type 0) → (C → C → Type 0) → (C → C → Type 0) → (ℕ → ℕ → ℕ → C) → ℕ → ℕ → ℕ → ℕ → Type 0
+FlaggedBy Up Down Into Out seen start window column row =
+    HasChain Up Down (λ frame. seen frame column row) start window ⊎ HasChain Into Out (λ frame. seen frame column row) start window
 
-later-bad :
-    (scene : Scene) (setup : Setup) (run : Run) (start period : ℕ) (x y : ℤ) → IsBad (painting_of scene run) setup (start + period) x y
-    → IsBad (painting_of scene (run_later period run)) setup start x y
-later-bad scene setup run start period x y bad = record {
-  marks = bad.marks;
-  flagged = λ column row marked. later-flagged scene setup run start period column row (bad.flagged column row marked);
-  inside = bad.inside;
-  many = bad.many;
+flagged-earlier :
+    {C : Type 0} (Up Down Into Out : C → C → Type 0) (seen : ℕ → ℕ → ℕ → C) (start window period column row : ℕ)
+    → FlaggedBy Up Down Into Out seen (start + period) window column row
+    → FlaggedBy Up Down Into Out (seen_later period seen) start window column row
+flagged-earlier Up Down Into Out seen start window period column row (inl light) =
+    inl (chain-earlier Up Down (λ frame. seen frame column row) start window period light.0 light.1)
+flagged-earlier Up Down Into Out seen start window period column row (inr red) =
+    inr (chain-earlier Into Out (λ frame. seen frame column row) start window period red.0 red.1)
+
+flagged-later :
+    {C : Type 0} (Up Down Into Out : C → C → Type 0) (seen : ℕ → ℕ → ℕ → C) (start window period column row : ℕ)
+    → FlaggedBy Up Down Into Out (seen_later period seen) start window column row
+    → FlaggedBy Up Down Into Out seen (start + period) window column row
+flagged-later Up Down Into Out seen start window period column row (inl light) =
+    inl (chain-later Up Down (λ frame. seen frame column row) start window period light.0 light.1)
+flagged-later Up Down Into Out seen start window period column row (inr red) =
+    inr (chain-later Into Out (λ frame. seen frame column row) start window period red.0 red.1)
+
+many-carries :
+    (One Other : ℕ → ℕ → Type 0) (setup : Setup) (x y : ℤ) → ((column row : ℕ) → One column row → Other column row)
+    → HasManyFlagged One setup x y → HasManyFlagged Other setup x y
+many-carries One Other setup x y carries many = record {
+  marks = many.marks;
+  flagged = λ column row marked. carries column row (many.flagged column row marked);
+  inside = many.inside;
+  many = many.many;
 }
 
-later-run :
-    (scene : Scene) (setup : Setup) (settled period start : ℕ) (run : Run) → HasFrames setup
-    → IsHorizon setup (all_animations scene) settled period → settled ≤ start → IsRunIn scene setup (start + period) run
-    → IsRunIn scene setup start (run_later period run)
-later-run scene setup settled period start run rate horizon behind is frame number layer above below there =
-    state-repeats scene setup settled period frame number layer (run (frame + period) number) rate horizon (omega arith) there
+-- a run has states in the frames of a window, by whatever is known of a layer's state in a frame
+abbrev pub RunsIn : {S : Type 0} → (ℕ → Layer → S → Type 0) → Scene → Setup → ℕ → (ℕ → ℕ → S) → Type 0
+RunsIn Is scene setup start run =
+    (frame number : ℕ) (layer : Layer) → start ≤ frame → frame ≤ start + window_of setup
+    → slice_get scene.layers number ≡ Some layer → Is frame layer (run frame number)
+
+-- that repeats
+abbrev pub Repeats : {S : Type 0} → (ℕ → Layer → S → Type 0) → Scene → ℕ → ℕ → Type 0
+Repeats {S} Is scene settled period =
+    (frame number : ℕ) (layer : Layer) (state : S) → settled ≤ frame → slice_get scene.layers number ≡ Some layer
+    → (Is (frame + period) layer state ↔ Is frame layer state)
+
+-- a run one period later, and one period earlier
+run-later :
+    {S : Type 0} (Is : ℕ → Layer → S → Type 0) (scene : Scene) (setup : Setup) (settled period start : ℕ) (run : ℕ → ℕ → S)
+    → Repeats Is scene settled period → settled ≤ start → RunsIn Is scene setup (start + period) run
+    → RunsIn Is scene setup start (seen_later period run)
+run-later Is scene setup settled period start run repeats behind is frame number layer above below there =
+    (repeats frame number layer (run (frame + period) number) (omega arith) there).0
     (is (frame + period) number layer (omega arith) (omega arith) there)
 
--- no window before the needed frames is bad
-abbrev NoneBefore : Scene → Setup → ℕ → Type 0
-NoneBefore scene setup needed =
-    (start : ℕ) (x y : ℤ) (run : Run) → start < needed → IsRunIn scene setup start run
-    → IsBad (painting_of scene run) setup start x y → ⊥
+abbrev seen_earlier : {C : Type 0} → ℕ → (ℕ → C) → ℕ → C
+seen_earlier period seen k = seen (k - period)
 
-none_up_to :
-    (scene : Scene) (setup : Setup) (settled period : ℕ) → HasFrames setup → IsHorizon setup (all_animations scene) settled period
-    → NoneBefore scene setup (settled + period) → (limit start : ℕ) → start ≤ limit → (x y : ℤ) (run : Run)
-    → IsRunIn scene setup start run → IsBad (painting_of scene run) setup start x y → ⊥
-none_up_to scene setup settled period rate horizon none zero start within x y run is bad =
-    let some = horizon.period_is.holds.some in
-    none start x y run (omega arith) is bad
-none_up_to scene setup settled period rate horizon none (suc limit) start within x y run is bad =
-    let some = horizon.period_is.holds.some in
+run-earlier :
+    {S : Type 0} (Is : ℕ → Layer → S → Type 0) (scene : Scene) (setup : Setup) (settled period start : ℕ) (run : ℕ → ℕ → S)
+    → Repeats Is scene settled period → settled ≤ start → RunsIn Is scene setup start run
+    → RunsIn Is scene setup (start + period) (seen_earlier period run)
+run-earlier Is scene setup settled period start run repeats behind is frame number layer above below there =
+    let sum : frame - period + period ≡ frame = omega arith in
+    subst (λ k. Is k layer (run (frame - period) number)) sum
+    ((repeats (frame - period) number layer (run (frame - period) number) (omega arith) there).1
+    (is (frame - period) number layer (omega arith) (omega arith) there))
+
+back_again : (k period : ℕ) → k + period - period ≡ k
+back_again k period = omega arith
+
+-- with whatever states of a window many pixels are flagged
+abbrev pub BadBy : {S C : Type 0} → (ℕ → Layer → S → Type 0) → ((ℕ → S) → ℕ → ℕ → C) → (C → C → Type 0) → (C → C → Type 0) → (C → C → Type 0) → (C → C → Type 0) → Scene → Setup → ℕ → ℤ → ℤ → Type 0
+BadBy {S} Is look Up Down Into Out scene setup start x y =
+    (run : ℕ → ℕ → S) → RunsIn Is scene setup start run
+    → HasManyFlagged (FlaggedBy Up Down Into Out (λ frame. look (run frame)) start (window_of setup)) setup x y
+
+-- so a window is bad where the one that starts a period later is
+pub bad-earlier :
+    {S C : Type 0} (Is : ℕ → Layer → S → Type 0) (look : (ℕ → S) → ℕ → ℕ → C) (Up Down Into Out : C → C → Type 0)
+    (scene : Scene) (setup : Setup) (settled period start : ℕ) (x y : ℤ) → Repeats Is scene settled period → settled ≤ start
+    → BadBy Is look Up Down Into Out scene setup (start + period) x y → BadBy Is look Up Down Into Out scene setup start x y
+bad-earlier Is look Up Down Into Out scene setup settled period start x y repeats behind bad run is =
+    let there = bad (seen_earlier period run) (run-earlier Is scene setup settled period start run repeats behind is) in
+    let window : ℕ = window_of setup in
+    subst (λ seen. HasManyFlagged (FlaggedBy Up Down Into Out seen start window) setup x y)
+    (λ i k. look (run (back_again k period i)))
+    (many-carries (FlaggedBy Up Down Into Out (λ k. look (run (k - period))) (start + period) window)
+    (FlaggedBy Up Down Into Out (λ k. look (run (k + period - period))) start window) setup x y
+    (λ column row flagged. flagged-earlier Up Down Into Out (λ k. look (run (k - period))) start window period column row flagged) there)
+
+pub bad-later :
+    {S C : Type 0} (Is : ℕ → Layer → S → Type 0) (look : (ℕ → S) → ℕ → ℕ → C) (Up Down Into Out : C → C → Type 0)
+    (scene : Scene) (setup : Setup) (settled period start : ℕ) (x y : ℤ) → Repeats Is scene settled period → settled ≤ start
+    → BadBy Is look Up Down Into Out scene setup start x y → BadBy Is look Up Down Into Out scene setup (start + period) x y
+bad-later Is look Up Down Into Out scene setup settled period start x y repeats behind bad run is =
+    let window : ℕ = window_of setup in
+    many-carries (FlaggedBy Up Down Into Out (λ k. look (run (k + period))) start window)
+    (FlaggedBy Up Down Into Out (λ k. look (run k)) (start + period) window) setup x y
+    (λ column row flagged. flagged-later Up Down Into Out (λ k. look (run k)) start window period column row flagged)
+    (bad (seen_later period run) (run-later Is scene setup settled period start run repeats behind is))
+
+-- with some states of a window many pixels are flagged
+pub record IsSomeBad {S C : Type 0} (Is : ℕ → Layer → S → Type 0) (look : (ℕ → S) → ℕ → ℕ → C) (Up Down Into Out : C → C → Type 0)
+    (scene : Scene) (setup : Setup) (x y : ℤ) (start : ℕ) : Type 0 where
+  pub run : ℕ → ℕ → S
+  pub is : RunsIn Is scene setup start run
+  pub many : HasManyFlagged (FlaggedBy Up Down Into Out (λ frame. look (run frame)) start (window_of setup)) setup x y
+
+pub some-earlier :
+    {S C : Type 0} (Is : ℕ → Layer → S → Type 0) (look : (ℕ → S) → ℕ → ℕ → C) (Up Down Into Out : C → C → Type 0)
+    (scene : Scene) (setup : Setup) (settled period : ℕ) (x y : ℤ) (start : ℕ) → Repeats Is scene settled period → settled ≤ start
+    → IsSomeBad Is look Up Down Into Out scene setup x y (start + period) → IsSomeBad Is look Up Down Into Out scene setup x y start
+some-earlier Is look Up Down Into Out scene setup settled period x y start repeats behind some = record {
+  run = seen_later period some.run;
+  is = run-later Is scene setup settled period start some.run repeats behind some.is;
+  many = many-carries (FlaggedBy Up Down Into Out (λ k. look (some.run k)) (start + period) (window_of setup))
+      (FlaggedBy Up Down Into Out (λ k. look (some.run (k + period))) start (window_of setup)) setup x y
+      (λ column row flagged. flagged-earlier Up Down Into Out (λ k. look (some.run k)) start (window_of setup) period column row flagged)
+      some.many;
+}
+
+-- what holds of a window, and a period earlier where it holds a period later, holds of one that starts before the needed frames
+pub record HoldsBefore (Holds : ℕ → Type 0) (end : ℕ) : Type 0 where
+  pub start : ℕ
+  pub before : start < end
+  pub holds : Holds start
+
+holds_up_to :
+    (Holds : ℕ → Type 0) (settled period : ℕ) → 1 ≤ period
+    → ((start : ℕ) → settled ≤ start → Holds (start + period) → Holds start)
+    → (limit start : ℕ) → start ≤ limit → Holds start → HoldsBefore Holds (settled + period)
+holds_up_to Holds settled period some earlier zero start within holds = record { start = start; before = omega arith; holds = holds }
+holds_up_to Holds settled period some earlier (suc limit) start within holds =
     elim (cases_lt start (settled + period)) [
-      | inl below ↦ none start x y run below is bad
+      | inl below ↦ record { start = start; before = below; holds = holds }
       | inr above ↦
           let sum : start ≡ start - period + period = omega arith in
-          let is_there = subst (λ s. IsRunIn scene setup s run) sum is in
-          let bad_there = subst (λ s. IsBad (painting_of scene run) setup s x y) sum bad in
-          none_up_to scene setup settled period rate horizon none limit (start - period) (omega arith) x y (run_later period run)
-          (later-run scene setup settled period (start - period) run rate horizon (omega arith) is_there)
-          (later-bad scene setup run (start - period) period x y bad_there)
+          holds_up_to Holds settled period some earlier limit (start - period) (omega arith)
+          (earlier (start - period) (omega arith) (subst Holds sum holds))
     ]
 
-pub few-suffice :
-    (scene : Scene) (setup : Setup) (needed : ℕ) → HasFrames setup → IsNeeded setup (all_animations scene) needed
-    → NoneBefore scene setup needed → IsSafeScene scene setup
-few-suffice scene setup needed rate is none start x y run runs bad =
-    let none_there = subst (NoneBefore scene setup) is.needed_is none in
-    none_up_to scene setup is.settled is.period rate is.horizon none_there start start (omega arith) x y run runs bad
+pub holds-before :
+    (Holds : ℕ → Type 0) (settled period : ℕ) → 1 ≤ period
+    → ((start : ℕ) → settled ≤ start → Holds (start + period) → Holds start)
+    → (start : ℕ) → Holds start → HoldsBefore Holds (settled + period)
+holds-before Holds settled period some earlier start holds = holds_up_to Holds settled period some earlier start start (omega arith) holds

@@ -4,7 +4,8 @@
 //! would be proved too. Each law here is the contract of a function that does nothing: its `ensures` names a statement of `specs/`,
 //! and the proof stands in `proofs/`. Beside one stands a wrong definition, close to the right one, with an example that tells them
 //! apart. Nobody calls this crate; its lemmas are for whoever judges a page by finitely many frames. The key clause is
-//! `FewWindowsSuffice`: a page is safe for ever where no window that starts below its needed frames is bad.
+//! `FewWindowsSuffice`: a page is safe for ever where no window that starts below its needed frames is bad, and by each kind of
+//! enclosure no window at all is surely, or possibly, bad where none of those is.
 //!
 //! It does not say how the settled frame or the period is found.
 #![tactic(auto)]
@@ -14,7 +15,7 @@ mod forever;
 mod horizons;
 
 pub use cycles::{progress_repeats, wrong_cycle_breaks};
-pub use forever::{few_windows_suffice, states_repeat};
+pub use forever::{bad_windows_repeat, few_windows_suffice, states_repeat};
 pub use horizons::{
     horizon_exists, horizon_is_unique, nothing_needs_one_frame, period_is_least_common_multiple,
     terms_are_least, turning_takes_twice,

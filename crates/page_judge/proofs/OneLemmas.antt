@@ -13,11 +13,13 @@ use Rattle.page_model.specs.Window.{IsPossiblyBad, IsPossiblyFlagged, IsSurelyBa
 use Rattle.horizon_laws.proofs.LeastLemmas.{IsLeast-unique}
 use Rattle.period_frames.specs.Needed.{NeedsMore}
 use Rattle.region_split.specs.Cutting.{Edges, IsCut, IsWork}
+use Rattle.state_laws.proofs.RunLemmas.{run-met}
 use Rattle.sweep.specs.Marks.{CountsFlagged}
-use Rattle.sweep.specs.Verdicts.{IsFirstBad, IsPossibleMost, IsSureMost, IsTooMuch, NoneIn}
+use Rattle.sweep.specs.Verdicts.{IsPossibleMost, IsSureMost, IsTooMuch}
 use Rattle.wide_laws.proofs.LooseLemmas.{loose_run-met}
+use Rattle.page_judge.specs.declared.types.Judgement.{Judgement}
 use Rattle.page_judge.specs.declared.types.Judgement.TheVariants.{NotYet, Pass, Fail, Frames, Work, Enclosure}
-use Rattle.page_judge.specs.Judgement.{IsEnclosed, IsFail, IsPass, IsPastFrames, IsPastWork, IsWithinBounds, OneJudgement, TellSame, can_be_judged}
+use Rattle.page_judge.specs.Judgement.{IsEnclosed, IsFail, IsJudgement, IsNeitherPassNorEnclosure, IsNoPass, IsPass, IsPastFrames, IsPastWork, IsWithinBounds, OneAnswer, OneJudgement, TellSame, can_be_judged}
 use Rattle.page_judge.proofs.CellLemmas.{cells-same}
 use Rattle.page_judge.proofs.PlaceLemmas.{counts-same, places-same, start-unique}
 
@@ -63,13 +65,6 @@ much-same scene setup cells frames other_cells others one other =
     let work : IsWork scene setup frames other_cells = subst (λ (n : ℕ). IsWork scene setup n other_cells) (sym same) other.work in
     let cells_are = cells-same scene setup frames one.work.xs one.work.ys work.xs work.ys one.work.cuts work.cuts in
     (omega (arith, cells_are, one.work.cells_are, work.cells_are), same)
-
--- one of the windows that are looked at is bad, or none is
-none-first : (Bad : ℕ → ℤ → ℤ → Type 0) (scene : Scene) (setup : Setup) (needed others start : ℕ) (x y : ℤ) → IsWithinBounds scene setup needed
-    → IsWithinBounds scene setup others → NoneIn Bad needed → IsFirstBad Bad others start x y → ⊥
-none-first Bad scene setup needed others start x y one other none first =
-    let same = needed-unique setup (all_animations scene) needed others one.is_needed other.is_needed in
-    none start x y (omega (arith, same, first.before)) first.bad
 
 -- one witness, and one enclosure
 sure-place : (scene : Scene) (setup : Setup) (start other_start : ℕ) (x y other_x other_y : ℤ) → start ≡ other_start
@@ -131,53 +126,80 @@ work-frames scene setup cells frames work past =
     few-more setup (all_animations scene) work.much.needed work.much.is_needed work.much.few past.more
 
 pass-fail : (scene : Scene) (setup : Setup) (frames : ℕ) (w : Witness) → IsPass scene setup frames → IsFail scene setup w → ⊥
-pass-fail scene setup frames w pass fail =
-    none-first (IsSurelyBad own scene setup) scene setup frames fail.needed w.start w.x w.y pass.bounds fail.bounds pass.none_surely fail.first
+pass-fail scene setup frames w pass fail = pass.none_surely w.start w.x w.y fail.first.bad
 
 pass-enclosed : (scene : Scene) (setup : Setup) (frames start : ℕ) (x y : ℤ) → IsPass scene setup frames → IsEnclosed scene setup start x y → ⊥
-pass-enclosed scene setup frames start x y pass enclosed =
-    none-first (IsPossiblyBad own scene setup) scene setup frames enclosed.needed start x y pass.bounds enclosed.bounds pass.none_possibly enclosed.first
+pass-enclosed scene setup frames start x y pass enclosed = pass.none_possibly start x y enclosed.first.bad
 
 fail-enclosed : (scene : Scene) (setup : Setup) (w : Witness) (start : ℕ) (x y : ℤ) → IsFail scene setup w → IsEnclosed scene setup start x y → ⊥
-fail-enclosed scene setup w start x y fail enclosed =
-    none-first (IsSurelyBad own scene setup) scene setup enclosed.needed fail.needed w.start w.x w.y enclosed.bounds fail.bounds enclosed.none_surely fail.first
+fail-enclosed scene setup w start x y fail enclosed = enclosed.none_surely w.start w.x w.y fail.first.bad
+
+pub one-answer : OneAnswer
+one-answer scene setup NotYet NotYet one other = tt
+one-answer scene setup NotYet (Pass frames) one other = not_yet-judged scene one other.bounds.judged
+one-answer scene setup NotYet (Fail w) one other = not_yet-judged scene one other.bounds.judged
+one-answer scene setup NotYet Frames one other = not_yet-judged scene one other.judged
+one-answer scene setup NotYet (Work cells frames) one other = not_yet-judged scene one other.judged
+one-answer scene setup NotYet (Enclosure start x y) one other = not_yet-judged scene one other.bounds.judged
+one-answer scene setup (Pass frames) NotYet one other = not_yet-judged scene other one.bounds.judged
+one-answer scene setup (Pass frames) (Pass others) one other =
+    needed-unique setup (all_animations scene) frames others one.bounds.is_needed other.bounds.is_needed
+one-answer scene setup (Pass frames) (Fail w) one other = pass-fail scene setup frames w one other
+one-answer scene setup (Pass frames) Frames one other = bounds-frames scene setup frames one.bounds other
+one-answer scene setup (Pass frames) (Work cells others) one other = bounds-much scene setup frames cells others one.bounds other.much
+one-answer scene setup (Pass frames) (Enclosure start x y) one other = pass-enclosed scene setup frames start x y one other
+one-answer scene setup (Fail w) NotYet one other = not_yet-judged scene other one.bounds.judged
+one-answer scene setup (Fail w) (Pass frames) one other = pass-fail scene setup frames w other one
+one-answer scene setup (Fail w) (Fail v) one other = fails-same scene setup w v one other
+one-answer scene setup (Fail w) Frames one other = bounds-frames scene setup one.needed one.bounds other
+one-answer scene setup (Fail w) (Work cells frames) one other = bounds-much scene setup one.needed cells frames one.bounds other.much
+one-answer scene setup (Fail w) (Enclosure start x y) one other = fail-enclosed scene setup w start x y one other
+one-answer scene setup Frames NotYet one other = not_yet-judged scene other one.judged
+one-answer scene setup Frames (Pass frames) one other = bounds-frames scene setup frames other.bounds one
+one-answer scene setup Frames (Fail w) one other = bounds-frames scene setup other.needed other.bounds one
+one-answer scene setup Frames Frames one other = tt
+one-answer scene setup Frames (Work cells frames) one other = work-frames scene setup cells frames other one
+one-answer scene setup Frames (Enclosure start x y) one other = bounds-frames scene setup other.needed other.bounds one
+one-answer scene setup (Work cells frames) NotYet one other = not_yet-judged scene other one.judged
+one-answer scene setup (Work cells frames) (Pass others) one other = bounds-much scene setup others cells frames other.bounds one.much
+one-answer scene setup (Work cells frames) (Fail w) one other = bounds-much scene setup other.needed cells frames other.bounds one.much
+one-answer scene setup (Work cells frames) Frames one other = work-frames scene setup cells frames one other
+one-answer scene setup (Work cells frames) (Work other_cells others) one other = much-same scene setup cells frames other_cells others one.much other.much
+one-answer scene setup (Work cells frames) (Enclosure start x y) one other = bounds-much scene setup other.needed cells frames other.bounds one.much
+one-answer scene setup (Enclosure start x y) NotYet one other = not_yet-judged scene other one.bounds.judged
+one-answer scene setup (Enclosure start x y) (Pass frames) one other = pass-enclosed scene setup frames start x y other one
+one-answer scene setup (Enclosure start x y) (Fail w) one other = fail-enclosed scene setup w start x y other one
+one-answer scene setup (Enclosure start x y) Frames one other = bounds-frames scene setup one.needed one.bounds other
+one-answer scene setup (Enclosure start x y) (Work cells frames) one other = bounds-much scene setup one.needed cells frames one.bounds other.much
+one-answer scene setup (Enclosure start x y) (Enclosure other_start other_x other_y) one other =
+    encloses-same scene setup start other_start x y other_x other_y one other
+
+-- a window that is bad or possibly bad, wherever it starts, excludes a pass
+no-pass : (scene : Scene) (setup : Setup) (judgement : Judgement) → IsJudgement scene setup judgement
+    → ((frames : ℕ) → IsPass scene setup frames → ⊥) → IsNoPass judgement
+no-pass scene setup NotYet is never = tt
+no-pass scene setup (Pass frames) is never = never frames is
+no-pass scene setup (Fail w) is never = tt
+no-pass scene setup Frames is never = tt
+no-pass scene setup (Work cells frames) is never = tt
+no-pass scene setup (Enclosure start x y) is never = tt
+
+-- and one that is surely bad excludes an enclosure too
+neither : (scene : Scene) (setup : Setup) (judgement : Judgement) (start : ℕ) (x y : ℤ) → IsJudgement scene setup judgement
+    → IsSurelyBad own scene setup start x y → IsNeitherPassNorEnclosure judgement
+neither scene setup NotYet start x y is surely = tt
+neither scene setup (Pass frames) start x y is surely = is.none_surely start x y surely
+neither scene setup (Fail w) start x y is surely = tt
+neither scene setup Frames start x y is surely = tt
+neither scene setup (Work cells frames) start x y is surely = tt
+neither scene setup (Enclosure other across down) start x y is surely = is.none_surely start x y surely
 
 pub one-judgement : OneJudgement
-one-judgement scene setup NotYet NotYet one other = tt
-one-judgement scene setup NotYet (Pass frames) one other = not_yet-judged scene one other.bounds.judged
-one-judgement scene setup NotYet (Fail w) one other = not_yet-judged scene one other.bounds.judged
-one-judgement scene setup NotYet Frames one other = not_yet-judged scene one other.judged
-one-judgement scene setup NotYet (Work cells frames) one other = not_yet-judged scene one other.judged
-one-judgement scene setup NotYet (Enclosure start x y) one other = not_yet-judged scene one other.bounds.judged
-one-judgement scene setup (Pass frames) NotYet one other = not_yet-judged scene other one.bounds.judged
-one-judgement scene setup (Pass frames) (Pass others) one other =
-    needed-unique setup (all_animations scene) frames others one.bounds.is_needed other.bounds.is_needed
-one-judgement scene setup (Pass frames) (Fail w) one other = pass-fail scene setup frames w one other
-one-judgement scene setup (Pass frames) Frames one other = bounds-frames scene setup frames one.bounds other
-one-judgement scene setup (Pass frames) (Work cells others) one other = bounds-much scene setup frames cells others one.bounds other.much
-one-judgement scene setup (Pass frames) (Enclosure start x y) one other = pass-enclosed scene setup frames start x y one other
-one-judgement scene setup (Fail w) NotYet one other = not_yet-judged scene other one.bounds.judged
-one-judgement scene setup (Fail w) (Pass frames) one other = pass-fail scene setup frames w other one
-one-judgement scene setup (Fail w) (Fail v) one other = fails-same scene setup w v one other
-one-judgement scene setup (Fail w) Frames one other = bounds-frames scene setup one.needed one.bounds other
-one-judgement scene setup (Fail w) (Work cells frames) one other = bounds-much scene setup one.needed cells frames one.bounds other.much
-one-judgement scene setup (Fail w) (Enclosure start x y) one other = fail-enclosed scene setup w start x y one other
-one-judgement scene setup Frames NotYet one other = not_yet-judged scene other one.judged
-one-judgement scene setup Frames (Pass frames) one other = bounds-frames scene setup frames other.bounds one
-one-judgement scene setup Frames (Fail w) one other = bounds-frames scene setup other.needed other.bounds one
-one-judgement scene setup Frames Frames one other = tt
-one-judgement scene setup Frames (Work cells frames) one other = work-frames scene setup cells frames other one
-one-judgement scene setup Frames (Enclosure start x y) one other = bounds-frames scene setup other.needed other.bounds one
-one-judgement scene setup (Work cells frames) NotYet one other = not_yet-judged scene other one.judged
-one-judgement scene setup (Work cells frames) (Pass others) one other = bounds-much scene setup others cells frames other.bounds one.much
-one-judgement scene setup (Work cells frames) (Fail w) one other = bounds-much scene setup other.needed cells frames other.bounds one.much
-one-judgement scene setup (Work cells frames) Frames one other = work-frames scene setup cells frames one other
-one-judgement scene setup (Work cells frames) (Work other_cells others) one other = much-same scene setup cells frames other_cells others one.much other.much
-one-judgement scene setup (Work cells frames) (Enclosure start x y) one other = bounds-much scene setup other.needed cells frames other.bounds one.much
-one-judgement scene setup (Enclosure start x y) NotYet one other = not_yet-judged scene other one.bounds.judged
-one-judgement scene setup (Enclosure start x y) (Pass frames) one other = pass-enclosed scene setup frames start x y other one
-one-judgement scene setup (Enclosure start x y) (Fail w) one other = fail-enclosed scene setup w start x y other one
-one-judgement scene setup (Enclosure start x y) Frames one other = bounds-frames scene setup one.needed one.bounds other
-one-judgement scene setup (Enclosure start x y) (Work cells frames) one other = bounds-much scene setup one.needed cells frames one.bounds other.much
-one-judgement scene setup (Enclosure start x y) (Enclosure other_start other_x other_y) one other =
-    encloses-same scene setup start other_start x y other_x other_y one other
+one-judgement = record {
+  same = one-answer;
+  bad = λ scene setup judgement start x y is bad.
+      no-pass scene setup judgement is (λ frames pass. run-met scene setup start (λ run runs. pass.safe start x y run runs (bad run runs)));
+  possibly = λ scene setup judgement start x y is possibly.
+      no-pass scene setup judgement is (λ frames pass. pass.none_possibly start x y possibly);
+  surely = neither;
+}

@@ -8,21 +8,21 @@ use Rattle.page_model.specs.Enclosure.{LooseRun, own}
 use Rattle.page_model.specs.Horizon.{IsNeeded, all_animations, frames_for}
 use Rattle.page_model.specs.TintOf.{IsLooseRunIn, tints_of}
 use Rattle.page_model.specs.Window.{IsPossiblyBad, IsSurelyBad, IsSurelyFlagged}
-use Rattle.frame_state.specs.Scenes.{can_be_painted, is_coloured, is_endless}
+use Rattle.frame_state.specs.Scenes.{can_be_painted, is_coloured}
 use Rattle.period_frames.specs.Needed.{NeedsMore}
 use Rattle.region_split.specs.Cutting.{Edges, IsCut}
 use Rattle.sweep.specs.declared.types.Reason.{Reason}
 use Rattle.sweep.specs.declared.types.Reason.TheVariants as reason
 use Rattle.sweep.specs.Marks.{CountsFlagged}
-use Rattle.sweep.specs.Verdicts.{IsFirstBad, IsPossibleMost, IsSureMost, IsTooMuch, NoneIn}
+use Rattle.sweep.specs.Verdicts.{IsFirstBad, IsPossibleMost, IsSureMost, IsTooMuch, NoneEver}
 use Rattle.witness_laws.specs.Acceptance.{IsAccepted}
 use Rattle.witness_text.specs.WitnessForm.{IsInForm}
 use Rattle.page_judge.specs.declared.types.Judgement.{Judgement}
 use Rattle.page_judge.specs.declared.types.Judgement.TheVariants.{NotYet, Pass, Fail, Frames, Work, Enclosure}
 
--- a scene can be judged: its frames can be painted, its animations end, and its colours are greys
+-- a scene can be judged: its frames can be painted, and its colours are greys
 abbrev pub can_be_judged : Scene → Bool
-can_be_judged scene = can_be_painted scene && (not (is_endless scene) && not (is_coloured scene))
+can_be_judged scene = can_be_painted scene && not (is_coloured scene)
 
 -- so many windows have to be looked at, and neither they nor the cells in their frames are too many
 pub record IsWithinBounds (scene : Scene) (setup : Setup) (needed : ℕ) : Type 0 where
@@ -32,15 +32,15 @@ pub record IsWithinBounds (scene : Scene) (setup : Setup) (needed : ℕ) : Type 
   pub cuts : Edges
   pub cut : IsCut scene setup (frames_for setup needed) cuts
 
--- no window is bad, from the first frame on for ever; it shows in so many windows, of which none is surely or possibly bad
+-- no window is bad, from the first frame on for ever, nor surely or possibly bad; it shows in so many windows
 pub record IsPass (scene : Scene) (setup : Setup) (frames : ℕ) : Type 0 where
   pub bounds : IsWithinBounds scene setup frames
-  pub none_surely : NoneIn (IsSurelyBad own scene setup) frames
-  pub none_possibly : NoneIn (IsPossiblyBad own scene setup) frames
+  pub none_surely : NoneEver (IsSurelyBad own scene setup)
+  pub none_possibly : NoneEver (IsPossiblyBad own scene setup)
   pub safe : IsSafeScene scene setup
 
--- The witness tells the first window that is surely bad, and the first position where it is so most; its area is the number of surely
--- flagged pixels there. It meets all nine conditions, it is in form, so that its text reads as it, and the window is bad.
+-- The witness tells the first window of all that is surely bad, and the first position where it is so most; its area is the number of
+-- surely flagged pixels there. It meets all nine conditions, it is in form, so that its text reads as it, and the window is bad.
 pub record IsFail (scene : Scene) (setup : Setup) (w : Witness) : Type 0 where
   pub needed : ℕ
   pub bounds : IsWithinBounds scene setup needed
@@ -52,11 +52,12 @@ pub record IsFail (scene : Scene) (setup : Setup) (w : Witness) : Type 0 where
   pub form : IsInForm w
   pub bad : IsBadWindow scene setup w.start w.x w.y
 
--- none is surely bad, and this is the first that is possibly bad, at the first position where it is so most
+-- no window is surely bad, from the first frame on for ever, and this is the first of all that is possibly bad, at the first position
+-- where it is so most
 pub record IsEnclosed (scene : Scene) (setup : Setup) (start : ℕ) (x y : ℤ) : Type 0 where
   pub needed : ℕ
   pub bounds : IsWithinBounds scene setup needed
-  pub none_surely : NoneIn (IsSurelyBad own scene setup) needed
+  pub none_surely : NoneEver (IsSurelyBad own scene setup)
   pub first : IsFirstBad (IsPossiblyBad own scene setup) needed start x y
   pub most : IsPossibleMost scene setup start x y
 
@@ -103,7 +104,28 @@ IsSameAnswer (Enclosure start x y) (Enclosure other_start other_x other_y) = (st
 IsSameAnswer one other = ⊥
 
 -- a scene comes to one answer at a setup
-abbrev pub OneJudgement : Type 0
-OneJudgement =
+abbrev pub OneAnswer : Type 0
+OneAnswer =
     (scene : Scene) (setup : Setup) (one other : Judgement) → IsJudgement scene setup one → IsJudgement scene setup other
     → IsSameAnswer one other
+
+-- an answer is no pass, and no enclosure either
+abbrev pub IsNoPass : Judgement → Type 0
+IsNoPass (Pass frames) = ⊥
+IsNoPass other = Unit {0}
+
+abbrev pub IsNeitherPassNorEnclosure : Judgement → Type 0
+IsNeitherPassNorEnclosure (Pass frames) = ⊥
+IsNeitherPassNorEnclosure (Enclosure start x y) = ⊥
+IsNeitherPassNorEnclosure other = Unit {0}
+
+-- The answers exclude each other for ever: a window that is bad or possibly bad, wherever it starts, excludes a pass, and one that is
+-- surely bad excludes an enclosure too.
+pub record OneJudgement : Type 0 where
+  pub same : OneAnswer
+  pub bad : (scene : Scene) (setup : Setup) (judgement : Judgement) (start : ℕ) (x y : ℤ) → IsJudgement scene setup judgement
+      → IsBadWindow scene setup start x y → IsNoPass judgement
+  pub possibly : (scene : Scene) (setup : Setup) (judgement : Judgement) (start : ℕ) (x y : ℤ) → IsJudgement scene setup judgement
+      → IsPossiblyBad own scene setup start x y → IsNoPass judgement
+  pub surely : (scene : Scene) (setup : Setup) (judgement : Judgement) (start : ℕ) (x y : ℤ) → IsJudgement scene setup judgement
+      → IsSurelyBad own scene setup start x y → IsNeitherPassNorEnclosure judgement

@@ -7,20 +7,17 @@ ghost use Rattle.sweep.specs.Verdicts as verdict;
 ghost use Rattle.sweep.specs.Verdicts.{IsReady};
 
 use crate::types::Judgement;
-use frame_state::{can_be_painted, is_coloured, is_endless};
+use frame_state::{can_be_painted, is_coloured};
 use page_model::{BadWindow, NoMemory, Scene, Setup, Witness};
 use std::alloc::Global;
 use sweep::{OpenFault, Reason, Sweep, Verdict};
 use witness_make::make;
 
-/// Whether a scene can be judged yet: its frames can be painted, its animations end, and its colours are greys.
+/// Whether a scene can be judged yet: its frames can be painted, and its colours are greys.
 pub fn can_be_judged(scene: &Scene) -> bool
     ensures { result ≡ definition.can_be_judged scene.now }
 {
     if !can_be_painted(scene) {
-        return false;
-    }
-    if is_endless(scene) {
         return false;
     }
     !is_coloured(scene)
@@ -90,8 +87,10 @@ pub fn judge(alloc: Global, scene: Scene, setup: Setup) -> Result<Judgement, NoM
     }
 }
 
-/// The answers exclude each other: a scene comes to one of them at a setup, with the same numbers, window, position and area. Causes
-/// that leave both a pass and an enclosure open, or any bad window for the first, would be refused.
+/// The answers exclude each other: a scene comes to one of them at a setup, with the same numbers, window, position and area. And they
+/// do so for ever: a window that is bad or possibly bad, wherever it starts, excludes a pass, and one that is surely bad excludes an
+/// enclosure too. Causes that leave both a pass and an enclosure open, or any bad window for the first, or that speak of some windows
+/// alone, would be refused.
 pub fn one_judgement()
     ensures { OneJudgement }
 {}

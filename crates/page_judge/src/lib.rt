@@ -3,10 +3,10 @@
 //! The top asks [`judge`] once a page is loaded. It opens a sweep, runs it, and where a window is bad has its witness made. The key
 //! clause is `IsJudgement`: a pass means that no window of the scene is bad, from the first frame on for ever; a fail, that the witness
 //! tells the first window that is surely bad, meets all nine conditions, and that the window is bad; each other answer comes by its own
-//! cause. The answers exclude each other: [`one_judgement`] is the law.
+//! cause. The answers exclude each other, by each window wherever it starts: [`one_judgement`] is the law.
 //!
 //! It speaks of scenes, verdicts and witnesses alone: how a page is read, and how an answer is told, is the top's to say. Scenes with
-//! curves, moving boxes, colours or endless animations aren't judged yet.
+//! curves, moving boxes or colours aren't judged yet.
 #![tactic(auto)]
 
 mod judging;

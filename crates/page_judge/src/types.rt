@@ -14,6 +14,7 @@ pub enum Judgement {
     Frames,
     /// Cells times frames are more than 4,194,304.
     Work { cells: u32, frames: u32 },
-    /// No window is surely bad, and this one is possibly bad: its first frame, and the upper left pixel of the rectangle.
+    /// No window is surely bad, and this one is the first that is possibly bad: its first frame, and the upper left pixel of the
+    /// rectangle.
     Enclosure { start: u32, x: i32, y: i32 },
 }

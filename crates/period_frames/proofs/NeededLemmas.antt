@@ -6,12 +6,11 @@ use Rattle.page_model.specs.declared.setup.Setup.{Setup}
 use Rattle.page_model.specs.declared.animation.Anim.{Anim}
 use Rattle.page_model.specs.declared.scene.Layer.{Layer}
 use Rattle.page_model.specs.declared.scene.Scene.{Scene}
-use Rattle.page_model.specs.Colour.{IsSafeScene}
 use Rattle.page_model.specs.Horizon.{IsHorizon, all_animations, animations_of}
 use Rattle.page_model.specs.Time.{HasFrames}
+use Rattle.horizon_laws.proofs.EnoughLemmas.{few-suffice}
 use Rattle.horizon_laws.proofs.SettledLemmas.{horizon-exists}
-use Rattle.horizon_laws.proofs.WindowLemmas.{few-suffice}
-use Rattle.period_frames.specs.Needed.{NeedsMore, NoneBadBefore}
+use Rattle.period_frames.specs.Needed.{AreEnough, NeedsMore}
 use Rattle.period_frames.specs.Periods.{IsPeriodOrLong}
 use Rattle.period_frames.specs.Repeats.{IsRepeat}
 use Rattle.period_frames.specs.declared.repeats.Repeat.{Repeat}
@@ -47,6 +46,6 @@ more-by_period setup anims rate long =
     let many = long found.1 found.2.period_is.holds in
     more-by_sum setup anims found.0 found.1 found.2 (omega arith)
 
-pub safe : (scene : Scene) (setup : Setup) (settled period : ℕ) → HasFrames setup → IsHorizon setup (all_animations scene) settled period → NoneBadBefore scene setup (settled + period) → IsSafeScene scene setup
-safe scene setup settled period rate is =
+pub enough : (scene : Scene) (setup : Setup) (settled period : ℕ) → HasFrames setup → IsHorizon setup (all_animations scene) settled period → AreEnough scene setup (settled + period)
+enough scene setup settled period rate is =
     few-suffice scene setup (settled + period) rate (record { settled = settled; period = period; horizon = is; needed_is = refl })

@@ -2,8 +2,7 @@
 ghost use Rattle.std.specs.Prelude.{◌≡◌, ◌+◌, ◌≤◌, IfSome, IfNone};
 ghost use Rattle.page_model.specs.Horizon.{IsHorizon, all_animations};
 ghost use Rattle.page_model.specs.ValidScene.{IsValid};
-ghost use Rattle.page_model.specs.Colour.{IsSafeScene};
-ghost use Rattle.period_frames.specs.Needed.{NeedsMore, NoneBadBefore};
+ghost use Rattle.period_frames.specs.Needed.{AreEnough, NeedsMore};
 
 use crate::periods::MOST;
 use crate::repeats::Repeat;
@@ -23,7 +22,7 @@ pub fn needed(scene: &Scene, setup: &Setup) -> Option<Horizon>
     ensures horizon { IfSome result (λ h. IsHorizon setup.now (all_animations scene.now) h.settled h.period) }
     ensures few { IfSome result (λ h. h.settled + h.period ≤ 100000) }
     ensures many { IfNone result (NeedsMore setup.now (all_animations scene.now)) }
-    ensures for_ever { IfSome result (λ h. NoneBadBefore scene.now setup.now (h.settled + h.period) → IsSafeScene scene.now setup.now) }
+    ensures for_ever { IfSome result (λ h. AreEnough scene.now setup.now (h.settled + h.period)) }
 {
     // Neither is 0, so each endless animation's cycle takes time, and there is a period.
     let _num = setup.num();

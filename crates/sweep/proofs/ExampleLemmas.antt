@@ -1,6 +1,6 @@
 -- The page of the tests is valid, can be painted and is grey.
 use Rattle.std.proofs.Common.{◌≡◌, false, arith, refl}
-use Rattle.std.specs.Prelude.{ℤ, pos, neg_ℤ}
+use Rattle.std.specs.Prelude.{pos, neg_ℤ}
 use Rattle.std.proofs.lemmas.Int.{ints}
 use Rattle.page_model.specs.ValidScene.{IsAnimation, IsValid}
 use Rattle.frame_state.specs.Scenes.{CanBePainted, can_be_painted, is_coloured}

@@ -121,9 +121,11 @@ verdict-is judged flags (Pass frames apart) ready are (pass, together) =
     record { cut = ready.cut; sides = sides-are judged.scene judged.setup (frames_for judged.setup judged.needed) judged.cuts ready.cut; flags_are = are } in (
       record {
         frames_are = pass.frames_are;
-        none_surely = none-bad Sure judged.scene judged.setup judged.cuts judged.needed judged.needed flags know (omega arith) pass.surely;
-        none_possibly = none-bad Possible judged.scene judged.setup judged.cuts judged.needed judged.needed flags know (omega arith) pass.possibly;
-        safe = ready.for_ever (none-before judged.scene judged.setup judged.cuts judged.needed flags ready.valid know pass.possibly);
+        none_surely = ready.for_ever.surely own
+            (none-bad Sure judged.scene judged.setup judged.cuts judged.needed judged.needed flags know (omega arith) pass.surely);
+        none_possibly = ready.for_ever.possibly own
+            (none-bad Possible judged.scene judged.setup judged.cuts judged.needed judged.needed flags know (omega arith) pass.possibly);
+        safe = ready.for_ever.safe (none-before judged.scene judged.setup judged.cuts judged.needed flags ready.valid know pass.possibly);
       },
       together,
     )
@@ -140,7 +142,8 @@ verdict-is judged flags (Undecided (reason.Enclosure start x y)) ready are undec
     let know : AreKnown judged.scene judged.setup judged.cuts judged.needed flags =
     record { cut = ready.cut; sides = sides-are judged.scene judged.setup (frames_for judged.setup judged.needed) judged.cuts ready.cut; flags_are = are } in
     record {
-      none_surely = none-bad Sure judged.scene judged.setup judged.cuts judged.needed judged.needed flags know (omega arith) undecided.surely;
+      none_surely = ready.for_ever.surely own
+          (none-bad Sure judged.scene judged.setup judged.cuts judged.needed judged.needed flags know (omega arith) undecided.surely);
       first = first-bad Possible judged.scene judged.setup judged.cuts judged.needed start x y flags know undecided.first;
       most = λ run is. first-place Possible judged.scene judged.setup judged.cuts judged.needed start x y flags run know undecided.first is;
     }

@@ -1,5 +1,5 @@
--- The verdict of a scene, by the windows that have to be looked at, and by the tints of the own kind of enclosure. A window is told
--- by its start and by the position where the rectangle holds the most flagged pixels.
+-- The verdict of a scene, of all its windows, by the tints of the own kind of enclosure; the first window of a sort is one of those that
+-- have to be looked at. It is told by its start and by the position where the rectangle holds the most flagged pixels.
 use Rattle.std.specs.Prelude.{ℕ, ℤ, false, ◌≡◌, ◌<◌, ◌≤◌, Result, Ok, Err}
 use Rattle.page_model.specs.declared.setup.Setup.{Setup}
 use Rattle.page_model.specs.declared.scene.Scene.{Scene}
@@ -10,7 +10,8 @@ use Rattle.page_model.specs.TintOf.{IsLooseRunIn, tints_of}
 use Rattle.page_model.specs.ValidScene.{IsValid}
 use Rattle.page_model.specs.Window.{IsPossiblyBad, IsPossiblyFlagged, IsSurelyBad, IsSurelyFlagged}
 use Rattle.frame_state.specs.Scenes.{CanBePainted, is_coloured}
-use Rattle.period_frames.specs.Needed.{NeedsMore, NoneBadBefore}
+use Rattle.period_frames.specs.Needed.{AreEnough, NeedsMore}
+pub use Rattle.period_frames.specs.Needed.{NoneEver, NoneIn}
 use Rattle.region_split.specs.Cutting.{Edges, IsCut, IsWork}
 use Rattle.sweep.specs.declared.types.Reason.TheVariants as reason
 use Rattle.sweep.specs.declared.types.Verdict.{Verdict}
@@ -18,10 +19,6 @@ use Rattle.sweep.specs.declared.types.Verdict.TheVariants.{Pass, Fail, Undecided
 use Rattle.sweep.specs.declared.types.OpenFault.{OpenFault}
 use Rattle.sweep.specs.declared.types.OpenFault.TheVariants as fault
 use Rattle.sweep.specs.Marks.{IsFirstMost}
-
--- no window that starts before a frame is bad at any position
-abbrev pub NoneIn : (ℕ → ℤ → ℤ → Type 0) → ℕ → Type 0
-NoneIn Bad end = (start : ℕ) (x y : ℤ) → start < end → Bad start x y → ⊥
 
 -- a window is bad at a position, and none before it is bad anywhere
 pub record IsFirstBad (Bad : ℕ → ℤ → ℤ → Type 0) (end start : ℕ) (x y : ℤ) : Type 0 where
@@ -40,11 +37,12 @@ IsPossibleMost scene setup start x y =
     (run : LooseRun) → IsLooseRunIn own scene setup start run
     → IsFirstMost (IsPossiblyFlagged own (tints_of scene run) setup start) setup x y
 
--- The first window that is surely bad fails a scene. Where none is, the first that is possibly bad leaves it undecided. Else it passes.
+-- The first window that is surely bad fails a scene. Where none is, wherever it starts, the first that is possibly bad leaves it
+-- undecided. Else it passes.
 pub record IsPass (scene : Scene) (setup : Setup) (needed frames : ℕ) : Type 0 where
   pub frames_are : frames ≡ needed
-  pub none_surely : NoneIn (IsSurelyBad own scene setup) needed
-  pub none_possibly : NoneIn (IsPossiblyBad own scene setup) needed
+  pub none_surely : NoneEver (IsSurelyBad own scene setup)
+  pub none_possibly : NoneEver (IsPossiblyBad own scene setup)
   pub safe : IsSafeScene scene setup
 
 pub record IsFail (scene : Scene) (setup : Setup) (needed start : ℕ) (x y : ℤ) : Type 0 where
@@ -52,7 +50,7 @@ pub record IsFail (scene : Scene) (setup : Setup) (needed start : ℕ) (x y : �
   pub most : IsSureMost scene setup start x y
 
 pub record IsUndecided (scene : Scene) (setup : Setup) (needed start : ℕ) (x y : ℤ) : Type 0 where
-  pub none_surely : NoneIn (IsSurelyBad own scene setup) needed
+  pub none_surely : NoneEver (IsSurelyBad own scene setup)
   pub first : IsFirstBad (IsPossiblyBad own scene setup) needed start x y
   pub most : IsPossibleMost scene setup start x y
 
@@ -76,7 +74,7 @@ pub record IsReady (judged : Judged) : Type 0 where
   pub grey : is_coloured judged.scene ≡ false
   pub is_needed : IsNeeded judged.setup (all_animations judged.scene) judged.needed
   pub few : judged.needed ≤ 100000
-  pub for_ever : NoneBadBefore judged.scene judged.setup judged.needed → IsSafeScene judged.scene judged.setup
+  pub for_ever : AreEnough judged.scene judged.setup judged.needed
   pub cut : IsCut judged.scene judged.setup (frames_for judged.setup judged.needed) judged.cuts
 
 -- a scene is opened as it was handed in

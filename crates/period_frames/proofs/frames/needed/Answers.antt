@@ -2,7 +2,7 @@
 use Rattle.std.proofs.Common.{arith, subst}
 use Rattle.page_model.specs.Horizon.{all_animations, animations_of}
 use Rattle.period_frames.specs.Repeats.{IsRepeat}
-use Rattle.period_frames.proofs.NeededLemmas.{horizon-known, more-by_period, more-by_sum, safe}
+use Rattle.period_frames.proofs.NeededLemmas.{enough, horizon-known, more-by_period, more-by_sum}
 use Rattle.period_frames.proofs.frames.needed.Goals as goal
 
 pub returns-in_err-period-clause-many : goal.returns-in_err-period-clause-many
@@ -28,4 +28,4 @@ returns-clause-for_ever c =
     let period = c.in_ok-period.period in
     let known = subst (λ layers. IsRepeat setup (animations_of layers) all) c.as_slice.ensures c.of_layers-all.ensures in
     let is = horizon-known setup (all_animations c.args.scene.now) all period known c.in_ok-period.was in
-    safe c.args.scene.now setup all.settled period (record { some_num = c.num-num.ensures.some; some_den = c.den-den.ensures.some }) is
+    enough c.args.scene.now setup all.settled period (record { some_num = c.num-num.ensures.some; some_den = c.den-den.ensures.some }) is
