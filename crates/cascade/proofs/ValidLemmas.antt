@@ -21,7 +21,8 @@ use Rattle.page_model.specs.declared.rule.Longhand.TheVariants.{Left, Top, Width
 use Rattle.page_model.specs.Cascade.{Candidate, Winners, animates_more, animation_at, breaks_body, colour_in, counts_in, delays_in, durations_in, ease, easings_in, fault_of, has, has_box_property, has_too_many, is_placed, item_for, kept_number, lacks, layer_of, length_in, names_more, names_property, names_won, not_placed, body_property, too_many_animations, number_of, opacity_in, set_meant, value_of, visibility_in, won, z_in}
 use Rattle.page_model.specs.Keyframes.{is_same}
 use Rattle.page_model.specs.ValidScene.{IsAnimation, IsColour, IsCount, IsEasing, IsExtent, IsLayer, IsPosition, NamesBackgroundAlone}
-use Rattle.css_values.specs.ValidValues.{IsLevel, IsLonghand, IsTime}
+use Rattle.css_quantities.specs.ValidQuantities.{IsLevel, IsTime}
+use Rattle.css_values.specs.ValidValues.{IsLonghand}
 use Rattle.css_reader.specs.SheetState.{SheetState, set_named}
 use Rattle.cascade_winners.specs.WinningValues.{IsWinningValue}
 use Rattle.cascade.specs.Named.{animations_from}

@@ -1,14 +1,15 @@
 -- Declarations that are read are those that are spelled.
 use Rattle.std.proofs.Common.{Result, Ok, Err, List, [], ◌∷◌}
 use Rattle.page_model.specs.declared.rule.Longhand.{Longhand}
-use Rattle.css_values.specs.declared.fault.ValueFault.{ValueFault}
-use Rattle.css_values.specs.declared.fault.ValueFault.TheVariants.{BadValue, OverLimit, NoMemory}
+use Rattle.css_words.specs.declared.fault.ValueFault.{ValueFault}
+use Rattle.css_words.specs.declared.fault.ValueFault.TheVariants.{BadValue, OverLimit, NoMemory}
 use Rattle.css_values.specs.declared.types.Property.{Property}
 use Rattle.css_values.specs.declared.types.Property.TheVariants.{Animation}
-use Rattle.css_values.specs.Lists.{Gives, list_of}
+use Rattle.css_items.specs.Lists.{Gives, list_of}
 use Rattle.css_values.specs.ShorthandGrammar.{item_of}
-use Rattle.css_values.specs.ValueGrammar.{columns, declaration_of, longhand_of}
-use Rattle.css_values.specs.Words.{Word, mapped}
+use Rattle.css_columns.specs.Columns.{columns}
+use Rattle.css_values.specs.ValueGrammar.{declaration_of, longhand_of}
+use Rattle.css_words.specs.Words.{Word, mapped}
 use Rattle.css_value_laws.specs.SpelledLists.{IsPastList}
 use Rattle.css_declaration_laws.specs.SpelledLonghands.{PastLonghand}
 use Rattle.css_declaration_laws.specs.SpelledShorthand.{PastItem, SpellsItem}
@@ -16,7 +17,7 @@ use Rattle.css_declaration_laws.specs.Spelling.{Answers, Spells, SpellsOne, Spel
 use Rattle.css_declaration_laws.proofs.ItemLemmas.{item_closes, item_reads}
 use Rattle.css_value_laws.proofs.ListLemmas.{list_reads}
 use Rattle.css_declaration_laws.proofs.LonghandLemmas.{longhand_reads}
-use Rattle.css_value_laws.proofs.Readings.{Reads, reads_like, reads_mapped}
+use Rattle.css_word_laws.proofs.Readings.{Reads, reads_like, reads_mapped}
 
 one_reads : (property : Property) (words : List Word) → Reads (mapped (λ longhand. longhand ∷ []) (longhand_of property words)) (SpellsOne property words) (PastLonghand property words)
 one_reads property words =

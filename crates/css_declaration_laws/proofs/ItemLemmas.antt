@@ -2,24 +2,24 @@
 use Rattle.std.proofs.Common.{ℕ, ℤ, pos, ◌≡◌, ◌∙◌, ◌<◌, ◌≤◌, ◌&&◌, not, Bool, true, false, List, [], ◌∷◌, ◌++◌, length, Option, Some, None, Ok, Err, option_and_then, refl, ap, sym, subst, inl, inr, arith}
 use Rattle.std.proofs.lemmas.Bool.{cases_Bool, and_parts, not-true}
 use Rattle.page_model.specs.declared.easing.Jump.{Jump}
-use Rattle.text_scan.specs.declared.token.CssKind.TheVariants.{Ident, Number}
-use Rattle.css_values.specs.declared.fault.ValueFault.TheVariants.{OverLimit}
-use Rattle.css_values.specs.declared.shorthand.Shorthand.{Shorthand}
-use Rattle.css_values.specs.Keywords.{direction_words, fill_words, play_words}
-use Rattle.css_values.specs.Lists.{before_first, goes_in}
+use Rattle.style_tokens.specs.declared.token.CssKind.TheVariants.{Ident, Number}
+use Rattle.css_words.specs.declared.fault.ValueFault.TheVariants.{OverLimit}
+use Rattle.css_columns.specs.declared.item.Shorthand.{Shorthand}
+use Rattle.css_items.specs.ItemWords.{direction_words, fill_words, play_words}
+use Rattle.css_items.specs.Lists.{before_first, goes_in}
 use Rattle.css_values.specs.ShorthandGrammar.{Slots, ends_word, groups, free, take_word, take_all, settled, item_of}
-use Rattle.css_values.specs.Words.{Word, is_comma}
-use Rattle.css_value_laws.specs.SpelledEasings.{IsSteps, IsCurve, SpellsEasing, PastEasing}
+use Rattle.css_words.specs.Words.{Word, is_comma}
+use Rattle.css_easing_laws.specs.SpelledEasings.{IsSteps, IsCurve, SpellsEasing, PastEasing}
 use Rattle.css_value_laws.specs.SpelledLists.{IsMarked}
-use Rattle.css_value_laws.specs.SpelledNumbers.{word}
-use Rattle.css_value_laws.specs.SpelledQuantities.{SpellsTime, PastTime, SpellsDuration, SpellsCount, PastCount}
-use Rattle.css_value_laws.specs.SpelledQuantities.SpellsCount.{endless, times}
+use Rattle.css_word_laws.specs.SpelledNumbers.{word}
+use Rattle.css_quantity_laws.specs.SpelledQuantities.{SpellsTime, PastTime, SpellsDuration, SpellsCount, PastCount}
+use Rattle.css_quantity_laws.specs.SpelledQuantities.SpellsCount.{endless, times}
 use Rattle.css_declaration_laws.specs.SpelledShorthand.{Part, IsPart, Takes, is_past, SpellsItem, PastItem}
 use Rattle.css_declaration_laws.specs.SpelledShorthand.Part.{duration, delay, easing, count, direction, fill, play, name}
 use Rattle.css_declaration_laws.specs.SpelledShorthand.Takes.{all, next}
 use Rattle.css_value_laws.proofs.ClosingLemmas.{count_closes, duration_closes, easing_closes, keyword_closes, name_closes, time_closes}
 use Rattle.css_value_laws.proofs.ListLemmas.{Closes, closes, mark_closes}
-use Rattle.css_value_laws.proofs.Readings.{Reads, reads_bad, reads_ok, reads_over, reads_of, reads_if}
+use Rattle.css_word_laws.proofs.Readings.{Reads, reads_bad, reads_ok, reads_over, reads_of, reads_if}
 use Rattle.css_declaration_laws.proofs.SlotLemmas.{held, has_over, made, made_is}
 use Rattle.css_declaration_laws.proofs.StepLemmas.{step_from, step_to}
 

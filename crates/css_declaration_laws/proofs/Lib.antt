@@ -4,4 +4,5 @@ pub mod LonghandLemmas
 pub mod PartLemmas
 pub mod SlotLemmas
 pub mod StepLemmas
+pub mod TableLemmas
 pub mod TakeLemmas

@@ -4,28 +4,29 @@ use Rattle.page_model.specs.declared.rule.Longhand.{Longhand}
 use Rattle.page_model.specs.declared.rule.Longhand.TheVariants as longhands
 use Rattle.css_values.specs.declared.types.Property.{Property}
 use Rattle.css_values.specs.declared.types.Property.TheVariants.{Position, Left, Top, Width, Height, BackgroundColor, Background, Opacity, Visibility, ZIndex, Margin, Padding, AnimationName, AnimationDuration, AnimationDelay, AnimationTimingFunction, AnimationIterationCount, AnimationDirection, AnimationFillMode, AnimationPlayState, Animation}
-use Rattle.css_values.specs.Colours.{colour_of}
-use Rattle.css_values.specs.Easings.{easing_of}
-use Rattle.css_values.specs.Keywords.{direction_words, fill_words, play_words, visibility_words}
-use Rattle.css_values.specs.Lists.{list_of}
-use Rattle.css_values.specs.Names.{keyword_of, name_of}
-use Rattle.css_values.specs.Quantities.{count_of, duration_of, is_nothing, length_of, opacity_of, time_of, z_index_of}
+use Rattle.css_colours.specs.Colours.{colour_of}
+use Rattle.css_easings.specs.Easings.{easing_of}
+use Rattle.css_items.specs.ItemWords.{direction_words, fill_words, play_words, visibility_words}
+use Rattle.css_items.specs.Lists.{list_of}
+use Rattle.css_items.specs.Names.{keyword_of, name_of}
+use Rattle.css_quantities.specs.Quantities.{count_of, duration_of, is_nothing, length_of, opacity_of, time_of, z_index_of}
 use Rattle.css_values.specs.ValueGrammar.{longhand_of, only_if}
-use Rattle.css_values.specs.Words.{Word, is_lone}
-use Rattle.css_value_laws.specs.SpelledEasings.{SpellsEasing, PastEasing}
+use Rattle.css_words.specs.Words.{Word, is_lone}
+use Rattle.css_easing_laws.specs.SpelledEasings.{SpellsEasing, PastEasing}
 use Rattle.css_declaration_laws.specs.SpelledLonghands.{SpellsLonghand, PastLonghand}
-use Rattle.css_value_laws.specs.SpelledQuantities.{SpellsTime, PastTime, SpellsDuration, SpellsCount, PastCount}
-use Rattle.css_value_laws.specs.SpelledWords.{SpellsKeyword, SpellsName}
-use Rattle.css_value_laws.specs.ValueLaws.{NonePast}
+use Rattle.css_quantity_laws.specs.SpelledQuantities.{SpellsTime, PastTime, SpellsDuration, SpellsCount, PastCount}
+use Rattle.css_word_laws.specs.SpelledWords.{SpellsKeyword}
+use Rattle.css_value_laws.specs.SpelledNames.{SpellsName}
+use Rattle.css_word_laws.specs.ValueLaws.{NonePast}
 use Rattle.css_value_laws.proofs.ClosingLemmas.{count_closes, duration_closes, easing_closes, keyword_closes, name_closes, time_closes}
-use Rattle.css_value_laws.proofs.ColourLemmas.{colour_reads}
-use Rattle.css_value_laws.proofs.EasingReadings.{easing_reads}
-use Rattle.css_value_laws.proofs.KeywordLemmas.{word_to, word_from}
+use Rattle.css_colour_laws.proofs.ColourLemmas.{colour_reads}
+use Rattle.css_easing_laws.proofs.EasingReadings.{easing_reads}
+use Rattle.css_word_laws.proofs.KeywordLemmas.{word_to, word_from}
 use Rattle.css_value_laws.proofs.ListLemmas.{list_reads}
-use Rattle.css_value_laws.proofs.QuantityLemmas.{count_reads, duration_reads, length_reads, nothing_from, nothing_to, opacity_reads, time_reads, z_index_reads}
-use Rattle.css_value_laws.proofs.Readings.{Reads, reads_bad, reads_mapped, reads_ok}
+use Rattle.css_quantity_laws.proofs.QuantityLemmas.{count_reads, duration_reads, length_reads, nothing_from, nothing_to, opacity_reads, time_reads, z_index_reads}
+use Rattle.css_word_laws.proofs.Readings.{Reads, reads_bad, reads_mapped, reads_ok}
 use Rattle.css_value_laws.proofs.TableLemmas.{directions_differ, fills_differ, plays_differ, visibilities_differ}
-use Rattle.css_value_laws.proofs.WordLemmas.{keyword_reads, name_reads}
+use Rattle.css_value_laws.proofs.NameLemmas.{keyword_reads, name_reads}
 
 -- one value where a test holds
 only_reads : (b : Bool) (longhand : Longhand) (P : Type 0) → (b ≡ true → P) → (P → b ≡ true) → Reads (only_if b longhand) (λ l. P × (longhand ≡ l)) ⊥

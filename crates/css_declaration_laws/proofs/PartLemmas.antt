@@ -5,26 +5,29 @@ use Rattle.page_model.specs.declared.animation.Count.{Count}
 use Rattle.page_model.specs.declared.animation.Direction.{Direction}
 use Rattle.page_model.specs.declared.animation.Fill.{Fill}
 use Rattle.page_model.specs.declared.easing.Easing.{Easing}
-use Rattle.text_scan.specs.declared.token.CssKind.{CssKind}
-use Rattle.text_scan.specs.declared.token.CssKind.TheVariants.{Function, Ident, Number}
-use Rattle.css_values.specs.declared.fault.ValueFault.{ValueFault}
-use Rattle.css_values.specs.declared.fault.ValueFault.TheVariants.{BadValue, OverLimit, NoMemory}
-use Rattle.css_values.specs.Keywords.{is_keyword, easing_words, direction_words, fill_words, play_words}
-use Rattle.css_values.specs.Quantities.{time_of}
+use Rattle.style_tokens.specs.declared.token.CssKind.{CssKind}
+use Rattle.style_tokens.specs.declared.token.CssKind.TheVariants.{Function, Ident, Number}
+use Rattle.css_words.specs.declared.fault.ValueFault.{ValueFault}
+use Rattle.css_words.specs.declared.fault.ValueFault.TheVariants.{BadValue, OverLimit, NoMemory}
+use Rattle.css_words.specs.Keywords.{is_keyword}
+use Rattle.css_easings.specs.EasingWords.{easing_words}
+use Rattle.css_items.specs.ItemWords.{direction_words, fill_words, play_words}
+use Rattle.css_quantities.specs.Quantities.{time_of}
 use Rattle.css_values.specs.ShorthandGrammar.{is_value}
-use Rattle.css_values.specs.Words.{Word}
-use Rattle.css_value_laws.specs.SpelledEasings.{SpellsEasing, PastEasing}
+use Rattle.css_words.specs.Words.{Word}
+use Rattle.css_easing_laws.specs.SpelledEasings.{SpellsEasing, PastEasing}
 use Rattle.css_value_laws.specs.SpelledLists.{IsMarked}
-use Rattle.css_value_laws.specs.SpelledNumbers.{Sign, word, IsMeasure}
-use Rattle.css_value_laws.specs.SpelledQuantities.{IsWord, IsWithin, IsPast, SpellsTime, PastTime, SpellsDuration, SpellsCount, PastCount}
-use Rattle.css_value_laws.specs.SpelledQuantities.SpellsCount.{endless, times}
-use Rattle.css_value_laws.specs.SpelledWords.{IsEntry, SpellsKeyword, SpellsName}
-use Rattle.css_value_laws.proofs.KeywordLemmas.{same_bytes, same_kind}
-use Rattle.css_value_laws.proofs.MeasureLemmas.{Clear, lone_from, measure_from}
-use Rattle.css_value_laws.proofs.NumberLemmas.{made}
-use Rattle.css_value_laws.proofs.QuantityLemmas.{other_unit, clear_s, clear_ms, clear_none, time_reads}
-use Rattle.css_value_laws.proofs.Readings.{Reads}
-use Rattle.css_value_laws.proofs.WordLemmas.{absent, entry_absent}
+use Rattle.css_word_laws.specs.SpelledNumbers.{Sign, word, IsMeasure}
+use Rattle.css_word_laws.specs.SpelledWords.{IsWord, IsEntry, SpellsKeyword}
+use Rattle.css_quantity_laws.specs.SpelledQuantities.{IsWithin, IsPast, SpellsTime, PastTime, SpellsDuration, SpellsCount, PastCount}
+use Rattle.css_quantity_laws.specs.SpelledQuantities.SpellsCount.{endless, times}
+use Rattle.css_value_laws.specs.SpelledNames.{SpellsName}
+use Rattle.css_word_laws.proofs.KeywordLemmas.{same_bytes, same_kind}
+use Rattle.css_quantity_laws.proofs.MeasureLemmas.{Clear, lone_from, measure_from}
+use Rattle.css_word_laws.proofs.NumberLemmas.{made}
+use Rattle.css_quantity_laws.proofs.QuantityLemmas.{other_unit, clear_s, clear_ms, clear_none, time_reads}
+use Rattle.css_word_laws.proofs.Readings.{Reads}
+use Rattle.css_word_laws.proofs.WordLemmas.{absent, entry_absent}
 
 -- the token that stands first
 pub record First (words : List Word) (kind : CssKind) : Type 0 where

@@ -5,7 +5,7 @@ use Rattle.page_model.specs.declared.animation.Count.TheVariants.{Times, Infinit
 use Rattle.page_model.specs.declared.animation.Direction.TheVariants.{Normal}
 use Rattle.page_model.specs.declared.animation.Fill.TheVariants.{Absent}
 use Rattle.page_model.specs.declared.easing.Easing.TheVariants.{Linear, Cubic}
-use Rattle.css_values.specs.declared.shorthand.Shorthand.{Shorthand}
+use Rattle.css_columns.specs.declared.item.Shorthand.{Shorthand}
 use Rattle.css_values.specs.ShorthandGrammar.{Slots, free}
 use Rattle.css_declaration_laws.specs.SpelledShorthand.{Part, is_taken, is_over, is_past, duration_in, delay_in, easing_in, count_in, direction_in, fill_in, play_in, name_in, item_with}
 use Rattle.css_declaration_laws.specs.SpelledShorthand.Slot.{duration_slot, delay_slot, easing_slot, count_slot, direction_slot, fill_slot, play_slot, name_slot}

@@ -1,9 +1,9 @@
 -- A word takes the part that it may take, and no other.
 use Rattle.std.proofs.Common.{◌≡◌, ◌∙◌, true, false, List, Option, Some, None, refl, inl, inr}
 use Rattle.std.proofs.lemmas.Bool.{cases_Bool}
-use Rattle.css_values.specs.Quantities.{time_of}
+use Rattle.css_quantities.specs.Quantities.{time_of}
 use Rattle.css_values.specs.ShorthandGrammar.{Slots, is_value, take_time, take_easing, take_count, take_direction, take_fill, take_play, take_name, take_keyword, take_word}
-use Rattle.css_values.specs.Words.{Word, or_else}
+use Rattle.css_words.specs.Words.{Word, or_else}
 use Rattle.css_declaration_laws.specs.SpelledShorthand.{Part, slot_of, same_slot, is_taken, IsPart, MayTake}
 use Rattle.css_declaration_laws.specs.SpelledShorthand.Part.{duration, delay, easing, count, direction, fill, play, name}
 use Rattle.css_declaration_laws.specs.SpelledShorthand.Slot.{name_slot}

@@ -7,28 +7,29 @@ use Rattle.page_model.specs.declared.animation.Direction.{Direction}
 use Rattle.page_model.specs.declared.animation.Fill.{Fill}
 use Rattle.page_model.specs.declared.easing.Easing.{Easing}
 use Rattle.page_model.specs.declared.easing.Easing.TheVariants.{Linear}
-use Rattle.css_values.specs.declared.fault.ValueFault.{ValueFault}
-use Rattle.css_values.specs.declared.fault.ValueFault.TheVariants.{BadValue, OverLimit, NoMemory}
-use Rattle.css_values.specs.Easings.{easing_of}
-use Rattle.css_values.specs.Keywords.{direction_words, fill_words, play_words}
-use Rattle.css_values.specs.Names.{keyword_of, name_of}
-use Rattle.css_values.specs.Quantities.{count_of, duration_of, time_of}
+use Rattle.css_words.specs.declared.fault.ValueFault.{ValueFault}
+use Rattle.css_words.specs.declared.fault.ValueFault.TheVariants.{BadValue, OverLimit, NoMemory}
+use Rattle.css_easings.specs.Easings.{easing_of}
+use Rattle.css_items.specs.ItemWords.{direction_words, fill_words, play_words}
+use Rattle.css_items.specs.Names.{keyword_of, name_of}
+use Rattle.css_quantities.specs.Quantities.{count_of, duration_of, time_of}
 use Rattle.css_values.specs.ShorthandGrammar.{Slots, taken, chosen, take_time, take_easing, take_count, take_direction, take_fill, take_play, take_name}
-use Rattle.css_values.specs.Words.{Word}
-use Rattle.css_value_laws.specs.SpelledEasings.{SpellsEasing, PastEasing}
+use Rattle.css_words.specs.Words.{Word}
+use Rattle.css_easing_laws.specs.SpelledEasings.{SpellsEasing, PastEasing}
 use Rattle.css_value_laws.specs.SpelledLists.{IsMarked}
-use Rattle.css_value_laws.specs.SpelledQuantities.{SpellsTime, PastTime, SpellsDuration, SpellsCount, PastCount}
+use Rattle.css_quantity_laws.specs.SpelledQuantities.{SpellsTime, PastTime, SpellsDuration, SpellsCount, PastCount}
 use Rattle.css_declaration_laws.specs.SpelledShorthand.{Part, is_taken, IsPart, MayTake}
 use Rattle.css_declaration_laws.specs.SpelledShorthand.Part.{duration, delay, easing, count, direction, fill, play, name}
 use Rattle.css_declaration_laws.specs.SpelledShorthand.Slot.{duration_slot, delay_slot, easing_slot, count_slot, direction_slot, fill_slot, play_slot, name_slot}
-use Rattle.css_value_laws.specs.SpelledWords.{SpellsKeyword, SpellsName}
-use Rattle.css_value_laws.specs.ValueLaws.{NonePast}
-use Rattle.css_value_laws.proofs.Readings.{Reads}
+use Rattle.css_word_laws.specs.SpelledWords.{SpellsKeyword}
+use Rattle.css_value_laws.specs.SpelledNames.{SpellsName}
+use Rattle.css_word_laws.specs.ValueLaws.{NonePast}
+use Rattle.css_word_laws.proofs.Readings.{Reads}
 use Rattle.css_declaration_laws.proofs.SlotLemmas.{put, held, has_duration, has_delay, has_easing, has_count, has_direction, has_fill, has_play, has_name}
-use Rattle.css_value_laws.proofs.EasingReadings.{easing_reads}
-use Rattle.css_value_laws.proofs.QuantityLemmas.{count_reads, duration_reads, time_reads}
+use Rattle.css_easing_laws.proofs.EasingReadings.{easing_reads}
+use Rattle.css_quantity_laws.proofs.QuantityLemmas.{count_reads, duration_reads, time_reads}
 use Rattle.css_value_laws.proofs.TableLemmas.{directions_differ, fills_differ, plays_differ}
-use Rattle.css_value_laws.proofs.WordLemmas.{keyword_reads, name_reads}
+use Rattle.css_value_laws.proofs.NameLemmas.{keyword_reads, name_reads}
 
 -- what was taken
 pub record Mark {A : Type 0} (S : List Word → A → Type 0) (P : List Word → Type 0) (w : List Word) (into : A → Slots) (past next : Slots) : Type 0 where

@@ -4,14 +4,15 @@ use Rattle.page_model.specs.declared.rule.Longhand.{Longhand}
 use Rattle.page_model.specs.declared.rule.Longhand.TheVariants as longhands
 use Rattle.css_values.specs.declared.types.Property.{Property}
 use Rattle.css_values.specs.declared.types.Property.TheVariants.{Position, Left, Top, Width, Height, BackgroundColor, Background, Opacity, Visibility, ZIndex, Margin, Padding, AnimationName, AnimationDuration, AnimationDelay, AnimationTimingFunction, AnimationIterationCount, AnimationDirection, AnimationFillMode, AnimationPlayState, Animation}
-use Rattle.css_values.specs.Keywords.{direction_words, fill_words, play_words, visibility_words}
-use Rattle.css_values.specs.Words.{Word}
-use Rattle.css_value_laws.specs.SpelledColours.{SpellsColour}
-use Rattle.css_value_laws.specs.SpelledEasings.{SpellsEasing, PastEasing}
+use Rattle.css_items.specs.ItemWords.{direction_words, fill_words, play_words, visibility_words}
+use Rattle.css_words.specs.Words.{Word}
+use Rattle.css_colour_laws.specs.SpelledColours.{SpellsColour}
+use Rattle.css_easing_laws.specs.SpelledEasings.{SpellsEasing, PastEasing}
 use Rattle.css_value_laws.specs.SpelledLists.{IsList, IsPastList}
-use Rattle.css_value_laws.specs.SpelledQuantities.{IsWord, SpellsLength, PastLength, SpellsTime, PastTime, SpellsDuration, SpellsOpacity, SpellsZIndex, PastZIndex, SpellsCount, PastCount, SpellsNothing}
-use Rattle.css_value_laws.specs.SpelledWords.{SpellsKeyword, SpellsName}
-use Rattle.css_value_laws.specs.ValueLaws.{NonePast}
+use Rattle.css_word_laws.specs.SpelledWords.{IsWord, SpellsKeyword}
+use Rattle.css_quantity_laws.specs.SpelledQuantities.{SpellsLength, PastLength, SpellsTime, PastTime, SpellsDuration, SpellsOpacity, SpellsZIndex, PastZIndex, SpellsCount, PastCount, SpellsNothing}
+use Rattle.css_value_laws.specs.SpelledNames.{SpellsName}
+use Rattle.css_word_laws.specs.ValueLaws.{NonePast}
 
 -- the longhand has a value that the words spell
 abbrev pub Sets : {A : Type 0} → (A → Longhand) → (List Word → A → Type 0) → List Word → Longhand → Type 0

@@ -8,13 +8,14 @@ use Rattle.page_model.specs.declared.animation.Fill.{Fill}
 use Rattle.page_model.specs.declared.animation.Fill.TheVariants.{Absent}
 use Rattle.page_model.specs.declared.easing.Easing.{Easing}
 use Rattle.page_model.specs.declared.easing.Easing.TheVariants.{Cubic}
-use Rattle.css_values.specs.declared.shorthand.Shorthand.{Shorthand}
-use Rattle.css_values.specs.Keywords.{direction_words, fill_words, play_words}
-use Rattle.css_values.specs.Words.{Word}
-use Rattle.css_value_laws.specs.SpelledEasings.{SpellsEasing, PastEasing}
+use Rattle.css_columns.specs.declared.item.Shorthand.{Shorthand}
+use Rattle.css_items.specs.ItemWords.{direction_words, fill_words, play_words}
+use Rattle.css_words.specs.Words.{Word}
+use Rattle.css_easing_laws.specs.SpelledEasings.{SpellsEasing, PastEasing}
 use Rattle.css_value_laws.specs.SpelledLists.{IsMarked}
-use Rattle.css_value_laws.specs.SpelledQuantities.{SpellsTime, PastTime, SpellsDuration, SpellsCount, PastCount}
-use Rattle.css_value_laws.specs.SpelledWords.{SpellsKeyword, SpellsName}
+use Rattle.css_quantity_laws.specs.SpelledQuantities.{SpellsTime, PastTime, SpellsDuration, SpellsCount, PastCount}
+use Rattle.css_word_laws.specs.SpelledWords.{SpellsKeyword}
+use Rattle.css_value_laws.specs.SpelledNames.{SpellsName}
 
 -- the slots of an item
 pub data Slot : Type 0 where

@@ -2,13 +2,13 @@
 -- shorthand sets.
 use Rattle.std.specs.Prelude.{◌≡◌, List, [], ◌∷◌, Result, Ok, Err}
 use Rattle.page_model.specs.declared.rule.Longhand.{Longhand}
-use Rattle.css_values.specs.declared.fault.ValueFault.{ValueFault}
-use Rattle.css_values.specs.declared.fault.ValueFault.TheVariants.{BadValue, OverLimit, NoMemory}
-use Rattle.css_values.specs.declared.shorthand.Shorthand.{Shorthand}
+use Rattle.css_words.specs.declared.fault.ValueFault.{ValueFault}
+use Rattle.css_words.specs.declared.fault.ValueFault.TheVariants.{BadValue, OverLimit, NoMemory}
+use Rattle.css_columns.specs.declared.item.Shorthand.{Shorthand}
 use Rattle.css_values.specs.declared.types.Property.{Property}
 use Rattle.css_values.specs.declared.types.Property.TheVariants.{Animation}
-use Rattle.css_values.specs.ValueGrammar.{columns}
-use Rattle.css_values.specs.Words.{Word}
+use Rattle.css_columns.specs.Columns.{columns}
+use Rattle.css_words.specs.Words.{Word}
 use Rattle.css_value_laws.specs.SpelledLists.{IsList, IsPastList}
 use Rattle.css_declaration_laws.specs.SpelledLonghands.{SpellsLonghand, PastLonghand}
 use Rattle.css_declaration_laws.specs.SpelledShorthand.{SpellsItem, PastItem}

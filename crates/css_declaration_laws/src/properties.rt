@@ -1,16 +1,17 @@
 // Properties.
 ghost use Rattle.std.specs.Prelude.{ℕ, List, Result as Outcome, Some, ◌≡◌, ◌↔◌};
 ghost use Rattle.page_model.specs.declared.rule.Longhand.{Longhand as Longhands};
-ghost use Rattle.css_values.specs.declared.fault.ValueFault.{ValueFault};
+ghost use Rattle.css_words.specs.declared.fault.ValueFault.{ValueFault};
 ghost use Rattle.css_values.specs.declared.types.Property.{Property};
-ghost use Rattle.css_values.specs.Keywords.{lookup, property_names};
-ghost use Rattle.css_values.specs.Lists.{Gives};
-ghost use Rattle.css_values.specs.Words.{Word};
+ghost use Rattle.css_words.specs.Keywords.{lookup};
+ghost use Rattle.css_values.specs.PropertyNames.{property_names};
+ghost use Rattle.css_items.specs.Lists.{Gives};
+ghost use Rattle.css_words.specs.Words.{Word};
 ghost use Rattle.css_values.specs.ValueGrammar.{declaration_of, longhand_of};
 ghost use Rattle.css_declaration_laws.specs.SpelledLonghands.{PastLonghand, SpellsLonghand};
 ghost use Rattle.css_declaration_laws.specs.Spelling.{Answers, Spells, SpellsPast};
-ghost use Rattle.css_value_laws.specs.SpelledWords.{IsEntry};
-ghost use Rattle.css_value_laws.specs.ValueLaws.{Agrees};
+ghost use Rattle.css_word_laws.specs.SpelledWords.{IsEntry};
+ghost use Rattle.css_word_laws.specs.ValueLaws.{Agrees};
 
 /// A property is found exactly where the bytes are its name, in any case.
 pub fn properties_are_named()

@@ -2,10 +2,10 @@
 use Rattle.std.proofs.Common.{◌≡◌, ℕ, ◌-◌, ◌≤◌, List, [], ◌∷◌, ◌++◌, Result, Ok, Err, refl, sym, ap, ◌∙◌, subst, inl, inr, true, length, take, drop, arith, length-take}
 use Rattle.page_model.specs.declared.place.Place.{Place}
 use Rattle.page_model.specs.declared.rule.Decl.{Decl}
-use Rattle.text_scan.specs.declared.fault.ScanFault.TheVariants.{BadToken}
-use Rattle.text_scan.specs.declared.token.CssToken.{CssToken}
-use Rattle.text_scan.specs.CssTokens.{AreTokens, IsBadAt}
-use Rattle.text_scan.proofs.CssUnique.{scan_gives, scan_tells}
+use Rattle.text_tokens.specs.declared.fault.ScanFault.TheVariants.{BadToken}
+use Rattle.style_tokens.specs.declared.token.CssToken.{CssToken}
+use Rattle.style_tokens.specs.CssTokens.{AreTokens, IsBadAt}
+use Rattle.style_tokens.proofs.CssUnique.{scan_gives, scan_tells}
 use Rattle.css_declarations.specs.declared.context.Context.TheVariants.{Inline}
 use Rattle.css_declarations.specs.declared.fault.SheetFault.{SheetFault}
 use Rattle.css_declarations.specs.declared.fault.SheetFault.TheVariants.{BadSheet, UnknownProperty, BadValue, BadKeyframes, OverLimit, NoMemory}

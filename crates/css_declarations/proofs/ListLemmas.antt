@@ -1,7 +1,7 @@
 -- Declarations that were read one by one.
 use Rattle.std.proofs.Common.{◌≡◌, ℕ, ◌+◌, ◌<◌, ◌≤◌, Bool, true, false, List, [], ◌∷◌, ◌++◌, length, Result, Ok, Err, refl, sym, ap, ◌∙◌, subst, arith, append_assoc, length-append, append-nil}
 use Rattle.page_model.specs.declared.rule.Decl.{Decl}
-use Rattle.text_scan.specs.declared.token.CssToken.{CssToken}
+use Rattle.style_tokens.specs.declared.token.CssToken.{CssToken}
 use Rattle.css_declarations.specs.declared.context.Context.{Context}
 use Rattle.css_declarations.specs.declared.fault.SheetFault.{SheetFault}
 use Rattle.css_declarations.specs.declared.fault.SheetFault.TheVariants.{BadSheet, UnknownProperty, BadValue, BadKeyframes, OverLimit, NoMemory}

@@ -7,22 +7,23 @@ use Rattle.page_model.specs.declared.easing.Easing.{Easing}
 use Rattle.page_model.specs.declared.rule.Decl.{Decl}
 use Rattle.page_model.specs.declared.rule.Longhand.{Longhand}
 use Rattle.page_model.specs.Cascade.{number_of}
-use Rattle.text_scan.specs.declared.token.CssToken.{CssToken}
-use Rattle.text_scan.specs.CssTokens.{AreTokens, Begins}
-use Rattle.text_scan.specs.CssTokens.Begins.{nothing, gap, token}
-use Rattle.text_scan.proofs.CssShorter.{gap_shorter, front_shorter}
-use Rattle.css_values.specs.declared.fault.ValueFault.{ValueFault}
-use Rattle.css_values.specs.declared.shorthand.Shorthand.{Shorthand}
+use Rattle.style_tokens.specs.declared.token.CssToken.{CssToken}
+use Rattle.style_tokens.specs.CssTokens.{AreTokens, Begins}
+use Rattle.style_tokens.specs.CssTokens.Begins.{nothing, gap, token}
+use Rattle.style_tokens.proofs.CssShorter.{gap_shorter, front_shorter}
+use Rattle.css_words.specs.declared.fault.ValueFault.{ValueFault}
+use Rattle.css_columns.specs.declared.item.Shorthand.{Shorthand}
 use Rattle.css_values.specs.declared.types.Property.{Property}
-use Rattle.css_values.specs.Easings.{easing_of}
-use Rattle.css_values.specs.Lists.{list_of}
+use Rattle.css_easings.specs.Easings.{easing_of}
+use Rattle.css_items.specs.Lists.{list_of}
 use Rattle.css_values.specs.ShorthandGrammar.{item_of}
 use Rattle.css_values.specs.ValidValues.{IsLonghand}
-use Rattle.css_values.specs.ValueGrammar.{columns, declaration_of, is_shorthand, longhand_of}
-use Rattle.css_values.specs.Words.{Word, mapped, words}
+use Rattle.css_columns.specs.Columns.{columns}
+use Rattle.css_values.specs.ValueGrammar.{declaration_of, is_shorthand, longhand_of}
+use Rattle.css_words.specs.Words.{Word, mapped, words}
 use Rattle.std.specs.Prelude.{if◌then◌else◌}
 use Rattle.page_model.specs.ValidScene.{IsEasing}
-use Rattle.css_values.proofs.ValidEasings.{easing_is}
+use Rattle.css_easings.proofs.ValidEasings.{easing_is}
 use Rattle.css_values.proofs.ValidLonghands.{declaration_is}
 use Rattle.css_declarations.specs.declared.context.Context.{Context}
 use Rattle.css_declarations.specs.DeclarationGrammar.{AreDeclarations, AreUnits, IsMark, IsUnit, decl_of, has_one_easing, joined, one_easing, value_in}

@@ -1,6 +1,6 @@
 -- Units one after the other: where they and what ends them are told by what stands there, so is the whole.
 use Rattle.std.proofs.Common.{◌≡◌, List, [], ◌∷◌, ◌++◌, ap, subst}
-use Rattle.text_scan.specs.declared.token.CssToken.{CssToken}
+use Rattle.style_tokens.specs.declared.token.CssToken.{CssToken}
 use Rattle.css_declarations.specs.TokenRuns.{Run}
 use Rattle.css_declarations.specs.TokenRuns.Run.{none, more}
 

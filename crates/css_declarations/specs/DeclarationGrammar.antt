@@ -5,15 +5,16 @@ use Rattle.page_model.specs.declared.easing.Easing.{Easing}
 use Rattle.page_model.specs.declared.rule.Decl.{Decl}
 use Rattle.page_model.specs.declared.rule.Longhand.{Longhand}
 use Rattle.page_model.specs.declared.rule.Longhand.TheVariants.{Easings}
-use Rattle.text_scan.specs.declared.token.CssKind.{CssKind}
-use Rattle.text_scan.specs.declared.token.CssToken.{CssToken}
-use Rattle.css_values.specs.declared.fault.ValueFault.{ValueFault}
+use Rattle.style_tokens.specs.declared.token.CssKind.{CssKind}
+use Rattle.style_tokens.specs.declared.token.CssToken.{CssToken}
+use Rattle.css_words.specs.declared.fault.ValueFault.{ValueFault}
 use Rattle.css_values.specs.declared.types.Property.{Property}
 use Rattle.css_values.specs.declared.types.Property.TheVariants.{Left, Top, Width, Height, BackgroundColor, Background, Opacity, Visibility, AnimationTimingFunction}
-use Rattle.css_values.specs.Easings.{easing_of}
-use Rattle.css_values.specs.Keywords.{lookup, property_names}
+use Rattle.css_easings.specs.Easings.{easing_of}
+use Rattle.css_words.specs.Keywords.{lookup}
+use Rattle.css_values.specs.PropertyNames.{property_names}
 use Rattle.css_values.specs.ValueGrammar.{declaration_of}
-use Rattle.css_values.specs.Words.{Word, mapped, words}
+use Rattle.css_words.specs.Words.{Word, mapped, words}
 use Rattle.css_declarations.specs.declared.context.Context.{Context}
 use Rattle.css_declarations.specs.declared.context.Context.TheVariants.{Inline, Rule, Block}
 use Rattle.css_declarations.specs.TokenKinds.{begins, is_ident, is_colon, is_semicolon, is_left_brace, is_right_brace, is_bang, is_word, token_text}

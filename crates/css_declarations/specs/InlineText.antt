@@ -2,8 +2,8 @@
 use Rattle.std.specs.Prelude.{ℕ, List, [], Result, Ok, Err, slice_range, ◌⊎◌, ◌≡◌}
 use Rattle.page_model.specs.declared.place.Place.{Place}
 use Rattle.page_model.specs.declared.rule.Decl.{Decl}
-use Rattle.text_scan.specs.declared.token.CssToken.{CssToken}
-use Rattle.text_scan.specs.CssTokens.{AreTokens, IsBadAt}
+use Rattle.style_tokens.specs.declared.token.CssToken.{CssToken}
+use Rattle.style_tokens.specs.CssTokens.{AreTokens, IsBadAt}
 use Rattle.css_declarations.specs.declared.context.Context.TheVariants.{Inline}
 use Rattle.css_declarations.specs.declared.fault.SheetFault.{SheetFault}
 use Rattle.css_declarations.specs.declared.fault.SheetFault.TheVariants.{BadSheet}

@@ -1,10 +1,10 @@
 -- Tests of tokens, and where what is left of a text begins.
 use Rattle.std.specs.Prelude.{ℕ, Bool, true, false, ◌&&◌, List, [], ◌∷◌}
-use Rattle.text_scan.specs.declared.token.CssKind.{CssKind}
-use Rattle.text_scan.specs.declared.token.CssKind.TheVariants.{Ident, Colon, Semicolon, LeftBrace, RightBrace, Bang}
-use Rattle.text_scan.specs.declared.token.CssToken.{CssToken}
-use Rattle.css_values.specs.Keywords.{is_keyword}
-use Rattle.css_values.specs.Words.{bytes_between}
+use Rattle.style_tokens.specs.declared.token.CssKind.{CssKind}
+use Rattle.style_tokens.specs.declared.token.CssKind.TheVariants.{Ident, Colon, Semicolon, LeftBrace, RightBrace, Bang}
+use Rattle.style_tokens.specs.declared.token.CssToken.{CssToken}
+use Rattle.css_words.specs.Keywords.{is_keyword}
+use Rattle.css_words.specs.Words.{bytes_between}
 
 abbrev pub is_ident : CssKind → Bool
 is_ident Ident = true

@@ -1,6 +1,6 @@
 -- Units one after the other at the front of a text. What a unit may be is told by the units before it and by the tokens from there on.
 use Rattle.std.specs.Prelude.{List, [], ◌∷◌, ◌++◌}
-use Rattle.text_scan.specs.declared.token.CssToken.{CssToken}
+use Rattle.style_tokens.specs.declared.token.CssToken.{CssToken}
 
 -- the tokens begin with these units, and leave the rest
 pub data Run {A : Type 0} (Is : List A → List CssToken → A → List CssToken → Type 0) (tokens : List CssToken) : List A → List CssToken → Type 0 where

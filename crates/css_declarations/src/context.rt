@@ -4,7 +4,7 @@ ghost use Rattle.css_declarations.specs.DeclarationGrammar.{has_one_easing, is_a
 
 use crate::tokens::{is_right_brace, is_semicolon};
 use css_values::types::Property;
-use text_scan::CssToken;
+use style_tokens::CssToken;
 
 /// Where declarations stand.
 #[derive(Clone, Copy, Debug, PartialEq, Eq)]

@@ -11,7 +11,7 @@ use css_values::property;
 use css_values::types::Property;
 use page_model::{Decl, List, Longhand, NoMemory};
 use std::alloc::Global;
-use text_scan::CssToken;
+use style_tokens::CssToken;
 
 /// The property that a token names.
 #[tactic(auto, unfolding(crate::specs::DeclarationGrammar::property_of))]

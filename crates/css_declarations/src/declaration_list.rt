@@ -8,7 +8,7 @@ use crate::declaration::unit_at;
 use crate::fault::SheetFault;
 use page_model::{Decl, List};
 use std::alloc::Global;
-use text_scan::CssToken;
+use style_tokens::CssToken;
 
 /// The tokens from what closes these declarations on, which are put behind others, or the first fault. The text ends
 /// at this byte of the file.

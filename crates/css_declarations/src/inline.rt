@@ -1,7 +1,7 @@
 // Inline styles.
 ghost use Rattle.std.specs.Prelude.{ℕ, Err, ◌≡◌, ◌≤◌, IfOk, length, List as Items, Result as Outcome};
 ghost use Rattle.page_model.specs.declared.rule.Decl.{Decl as Declared};
-ghost use Rattle.text_scan.specs.CssTokens.{AreTokens};
+ghost use Rattle.style_tokens.specs.CssTokens.{AreTokens};
 ghost use Rattle.css_declarations.specs.declared.fault.SheetFault.{SheetFault as Fault};
 ghost use Rattle.css_declarations.specs.declared.fault.SheetFault.TheVariants.{BadKeyframes};
 ghost use Rattle.css_declarations.specs.DeclarationReading.{Tells};
@@ -13,7 +13,7 @@ use crate::declaration_list::declarations;
 use crate::fault::SheetFault;
 use page_model::{Decl, List, Place};
 use std::alloc::Global;
-use text_scan::{CssToken, ScanFault, scan_css};
+use style_tokens::{CssToken, ScanFault, scan_css};
 
 /// The declarations that tokens of an inline style spell.
 fn read_tokens(

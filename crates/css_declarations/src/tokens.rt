@@ -1,10 +1,10 @@
 // Tests of tokens.
 ghost use Rattle.std.specs.Prelude.{◌≡◌, ◌&&◌, ◌||◌};
-ghost use Rattle.css_values.specs.Keywords.{is_keyword};
+ghost use Rattle.css_words.specs.Keywords.{is_keyword};
 ghost use Rattle.css_declarations.specs.DeclarationGrammar.{ends_value};
 ghost use Rattle.css_declarations.specs.TokenKinds.{is_bang, is_colon, is_ident, is_right_brace, is_semicolon, is_word, place_of, token_text};
 
-use text_scan::{CssKind, CssToken};
+use style_tokens::{CssKind, CssToken};
 
 /// The byte of the file at which what is left of a text begins: the place of its first token, or its end.
 pub fn place_of(end: u32, tokens: &[CssToken]) -> u32
@@ -17,7 +17,7 @@ pub fn place_of(end: u32, tokens: &[CssToken]) -> u32
 }
 
 /// The bytes of a token; none, where it doesn't lie in the text.
-#[tactic(auto, unfolding(css_values::specs::Words::bytes_between))]
+#[tactic(auto, unfolding(css_words::specs::Words::bytes_between))]
 pub fn token_text(text: &[u8], token: CssToken) -> &[u8]
     ensures { result.now ≡ token_text text.now token }
 {
@@ -83,7 +83,7 @@ pub(crate) fn is_word(keyword: &[u8], text: &[u8], token: CssToken) -> bool
 }
 
 /// Whether the bytes are this keyword, in any case.
-#[tactic(auto, unfolding(css_values::specs::Keywords::is_keyword))]
+#[tactic(auto, unfolding(css_words::specs::Keywords::is_keyword))]
 fn is_keyword(keyword: &[u8], bytes: &[u8]) -> bool
     ensures { result ≡ is_keyword keyword.now bytes.now }
 {

@@ -1,7 +1,7 @@
 // The tokens of a value, and what they spell.
 ghost use Rattle.std.specs.Prelude.{◌≡◌, ◌∷◌, ◌≤◌, [], IfOk, length};
-ghost use Rattle.css_values.specs.Lists.{Gives};
-ghost use Rattle.css_values.specs.Words.{words};
+ghost use Rattle.css_items.specs.Lists.{Gives};
+ghost use Rattle.css_words.specs.Words.{words};
 ghost use Rattle.css_declarations.specs.DeclarationGrammar.{one_easing, value_in};
 ghost use Rattle.css_declarations.specs.DeclarationReading.{Tells, fault_at, value_at, value_front, value_length, value_rest};
 
@@ -12,7 +12,7 @@ use css_values::types::Property;
 use css_values::{ValueFault, declaration, easing};
 use page_model::{Easing, List, Longhand, NoMemory};
 use std::alloc::Global;
-use text_scan::CssToken;
+use style_tokens::CssToken;
 
 /// How many tokens a value has.
 fn value_length(tokens: &[CssToken]) -> usize

@@ -1,6 +1,6 @@
 -- Things with commas between, read one by one.
 use Rattle.std.proofs.Common.{◌≡◌, ◌<◌, ◌≤◌, true, false, List, [], ◌∷◌, ◌++◌, length, Ok, Err, refl, subst, arith}
-use Rattle.text_scan.specs.declared.token.CssToken.{CssToken}
+use Rattle.style_tokens.specs.declared.token.CssToken.{CssToken}
 use Rattle.css_declarations.specs.declared.fault.SheetFault.{SheetFault}
 use Rattle.css_declarations.specs.TokenKinds.{begins}
 use Rattle.css_parts.specs.Readings.{Read, Many, Listed, no_comma, behind_first, is_comma}

@@ -1,15 +1,15 @@
 -- Offsets that are read one by one.
 use Rattle.std.proofs.Common.{refl, ◌≡◌, ℕ, ◌<◌, Bool, true, false, cond, List, [], ◌∷◌, ◌++◌, length, Result, Ok, Err, sym, ap, ◌∙◌, subst, append-nil, append_assoc}
 use Rattle.std.specs.BTreeSet.{BTreeSet}
-use Rattle.text_scan.specs.declared.token.CssToken.{CssToken}
+use Rattle.style_tokens.specs.declared.token.CssToken.{CssToken}
 use Rattle.css_declarations.specs.declared.fault.SheetFault.{SheetFault}
 use Rattle.css_declarations.specs.declared.fault.SheetFault.TheVariants.{BadSheet, BadKeyframes}
 use Rattle.css_declarations.specs.DeclarationFaults.{IsTold}
 use Rattle.css_declarations.specs.DeclarationReading.{after}
 use Rattle.css_declarations.specs.TokenKinds.{begins, is_word, place_of}
-use Rattle.css_values.specs.declared.fault.ValueFault.{ValueFault}
-use Rattle.css_values.specs.Quantities.{percentage_of}
-use Rattle.css_values.specs.Words.{words}
+use Rattle.css_words.specs.declared.fault.ValueFault.{ValueFault}
+use Rattle.css_quantities.specs.Quantities.{percentage_of}
+use Rattle.css_words.specs.Words.{words}
 use Rattle.std.specs.Prelude.{ℤ, pos, negsuc, codes, nat_le}
 use Rattle.css_parts.specs.KeyframeGrammar.{Offsets, is_given, is_percentage, measured, new_offset, offset_at, said_at, within_set}
 use Rattle.css_parts.specs.OffsetViews.{AreOffsets, Holds, IsOffsetPut, WasGiven}

@@ -2,7 +2,7 @@
 use Rattle.std.proofs.Common.{◌≡◌, ℕ, ◌<◌, ◌≤◌, Bool, true, false, cond, List, [], ◌∷◌, ◌++◌, length, Option, Some, None, Ok, Err, refl, sym, ap, ◌∙◌, subst, arith}
 use Rattle.std.specs.Prelude.{◌&&◌, ◌==◌}
 use Rattle.page_model.specs.declared.rule.Compound.{Compound}
-use Rattle.text_scan.specs.declared.token.CssToken.{CssToken}
+use Rattle.style_tokens.specs.declared.token.CssToken.{CssToken}
 use Rattle.css_declarations.specs.declared.fault.SheetFault.{SheetFault}
 use Rattle.css_declarations.specs.declared.fault.SheetFault.TheVariants.{BadSheet}
 use Rattle.css_declarations.specs.TokenKinds.{begins, is_ident, token_text}

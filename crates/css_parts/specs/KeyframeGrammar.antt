@@ -12,13 +12,14 @@ use Rattle.page_model.specs.declared.rule.Decl.{Decl}
 use Rattle.page_model.specs.declared.rule.Longhand.{Longhand}
 use Rattle.page_model.specs.declared.rule.Longhand.TheVariants.{Left, Top, Width, Height, Colour, Opacity, Visibility, Easings}
 use Rattle.page_model.specs.Keyframes.{is_same}
-use Rattle.text_scan.specs.declared.token.CssKind.{CssKind}
-use Rattle.text_scan.specs.declared.token.CssKind.TheVariants.{AtWord, Number}
-use Rattle.text_scan.specs.declared.token.CssToken.{CssToken}
-use Rattle.css_values.specs.declared.fault.ValueFault.{ValueFault}
-use Rattle.css_values.specs.Keywords.{is_keyword, lookup, reserved_words}
-use Rattle.css_values.specs.Quantities.{percentage_of}
-use Rattle.css_values.specs.Words.{words}
+use Rattle.style_tokens.specs.declared.token.CssKind.{CssKind}
+use Rattle.style_tokens.specs.declared.token.CssKind.TheVariants.{AtWord, Number}
+use Rattle.style_tokens.specs.declared.token.CssToken.{CssToken}
+use Rattle.css_words.specs.declared.fault.ValueFault.{ValueFault}
+use Rattle.css_words.specs.Keywords.{is_keyword, lookup}
+use Rattle.css_items.specs.ItemWords.{reserved_words}
+use Rattle.css_quantities.specs.Quantities.{percentage_of}
+use Rattle.css_words.specs.Words.{words}
 use Rattle.css_declarations.specs.declared.context.Context.TheVariants.{Block}
 use Rattle.css_declarations.specs.declared.fault.SheetFault.TheVariants.{BadSheet, BadValue, BadKeyframes}
 use Rattle.css_declarations.specs.DeclarationReading.{after}

@@ -1,8 +1,8 @@
 -- Readings of tokens. A reading says of some tokens what they begin with and what is left behind it, or the first fault of them.
 use Rattle.std.specs.Prelude.{ℕ, Bool, true, false, ◌≡◌, not, List, [], ◌∷◌, ◌++◌, Result, Ok, Err, if◌then◌else◌}
-use Rattle.text_scan.specs.declared.token.CssKind.{CssKind}
-use Rattle.text_scan.specs.declared.token.CssKind.TheVariants.{Comma}
-use Rattle.text_scan.specs.declared.token.CssToken.{CssToken}
+use Rattle.style_tokens.specs.declared.token.CssKind.{CssKind}
+use Rattle.style_tokens.specs.declared.token.CssKind.TheVariants.{Comma}
+use Rattle.style_tokens.specs.declared.token.CssToken.{CssToken}
 use Rattle.page_model.specs.declared.rule.Decl.{Decl}
 use Rattle.css_declarations.specs.declared.context.Context.{Context}
 use Rattle.css_declarations.specs.declared.fault.SheetFault.{SheetFault}

@@ -2,11 +2,11 @@
 use Rattle.std.specs.Prelude.{ℕ, Bool, true, false, ◌==◌, ◌&&◌, ◌||◌, not, List, [], ◌∷◌, ◌++◌, drop, codes, Option, Some, None, Ok, Err, if◌then◌else◌}
 use Rattle.std.specs.List.{list_all}
 use Rattle.page_model.specs.declared.rule.Compound.{Compound}
-use Rattle.text_scan.specs.Classes.{is_name_start, is_name_byte}
-use Rattle.text_scan.specs.declared.token.CssKind.{CssKind}
-use Rattle.text_scan.specs.declared.token.CssKind.TheVariants.{Dot, Hash}
-use Rattle.text_scan.specs.declared.token.CssToken.{CssToken}
-use Rattle.css_values.specs.Keywords.{is_keyword}
+use Rattle.text_tokens.specs.Classes.{is_name_start, is_name_byte}
+use Rattle.style_tokens.specs.declared.token.CssKind.{CssKind}
+use Rattle.style_tokens.specs.declared.token.CssKind.TheVariants.{Dot, Hash}
+use Rattle.style_tokens.specs.declared.token.CssToken.{CssToken}
+use Rattle.css_words.specs.Keywords.{is_keyword}
 use Rattle.css_declarations.specs.declared.fault.SheetFault.TheVariants.{BadSheet}
 use Rattle.css_declarations.specs.TokenKinds.{is_ident, token_text}
 use Rattle.css_parts.specs.Readings.{Read, Exactly, Many, Seen, Listed}

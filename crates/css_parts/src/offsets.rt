@@ -1,14 +1,14 @@
 // The offsets of keyframes.
 ghost use Rattle.std.specs.Prelude.{◌≡◌, ◌&&◌};
-ghost use Rattle.css_values.specs.Quantities.{percentage_of};
-ghost use Rattle.css_values.specs.Words.{words};
+ghost use Rattle.css_quantities.specs.Quantities.{percentage_of};
+ghost use Rattle.css_words.specs.Words.{words};
 ghost use Rattle.css_declarations.specs.DeclarationReading.{shown};
 ghost use Rattle.css_parts.specs.KeyframeGrammar.{ends_with_percent, is_percentage, measured, said_at, within_set};
 
 use crate::tokens::{is_number, is_word};
 use css_declarations::{SheetFault, token_text};
 use css_values::percentage;
-use text_scan::CssToken;
+use style_tokens::CssToken;
 
 /// Whether bytes end with a `%`.
 fn ends_with_percent(bytes: &[u8]) -> bool

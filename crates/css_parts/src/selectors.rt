@@ -1,7 +1,7 @@
 // Selectors.
 ghost use Rattle.std.specs.Prelude.{◌≡◌, ◌&&◌, ◌≤◌, ◌∷◌, ◌++◌, [], Some, IfOk, length};
 ghost use Rattle.std.specs.List.{list_all};
-ghost use Rattle.text_scan.specs.Classes.{is_name_byte, is_name_start};
+ghost use Rattle.text_tokens.specs.Classes.{is_name_byte, is_name_start};
 ghost use Rattle.css_declarations.specs.DeclarationReading.{shown};
 ghost use Rattle.css_parts.specs.Readings.{Fills, Puts, with_last};
 ghost use Rattle.css_parts.specs.SelectorGrammar.{Selector, Selectors, class_at, ends_behind, goes_on, id_name, is_bare, is_id, is_identifier, is_tag, part_at, with_part};
@@ -11,7 +11,7 @@ use crate::tokens::{begins_comma, behind_first, is_dot, is_hash, is_ident, is_ke
 use css_declarations::{SheetFault, token_text};
 use page_model::{Compound, List, Name, NoMemory};
 use std::alloc::Global;
-use text_scan::CssToken;
+use style_tokens::CssToken;
 
 /// What a part of a selector asks for.
 #[derive(Clone, Copy)]

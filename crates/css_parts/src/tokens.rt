@@ -1,6 +1,6 @@
 // Tests of tokens, and single tokens.
 ghost use Rattle.std.specs.Prelude.{◌≡◌, ◌&&◌, ◌==◌};
-ghost use Rattle.css_values.specs.Keywords.{is_keyword};
+ghost use Rattle.css_words.specs.Keywords.{is_keyword};
 ghost use Rattle.css_declarations.specs.DeclarationReading.{shown};
 ghost use Rattle.css_declarations.specs.TokenKinds.{begins, is_ident, is_left_brace, is_right_brace, is_word};
 ghost use Rattle.css_parts.specs.KeyframeGrammar.{is_at_word, is_number};
@@ -8,7 +8,7 @@ ghost use Rattle.css_parts.specs.Readings.{behind_first, is_comma, token_at};
 ghost use Rattle.css_parts.specs.SelectorGrammar.{is_dot, is_hash};
 
 use css_declarations::{SheetFault, token_text};
-use text_scan::{CssKind, CssToken};
+use style_tokens::{CssKind, CssToken};
 
 /// Whether it is an identifier.
 pub fn is_ident(kind: CssKind) -> bool
@@ -46,7 +46,7 @@ pub fn is_number(kind: CssKind) -> bool
 }
 
 /// Whether the bytes are this keyword, in any case.
-#[tactic(auto, unfolding(css_values::specs::Keywords::is_keyword))]
+#[tactic(auto, unfolding(css_words::specs::Keywords::is_keyword))]
 pub fn is_keyword(keyword: &[u8], bytes: &[u8]) -> bool
     ensures { result ≡ is_keyword keyword.now bytes.now }
 {

@@ -6,7 +6,7 @@ use Rattle.std.proofs.lemmas.List.Elements.{All-from_recursion}
 use Rattle.page_model.specs.declared.keyframe.KeyframeSet.{KeyframeSet}
 use Rattle.page_model.specs.declared.rule.Decl.{Decl}
 use Rattle.page_model.specs.declared.rule.Rule.{Rule as StyleRule}
-use Rattle.text_scan.specs.declared.token.CssToken.{CssToken}
+use Rattle.style_tokens.specs.declared.token.CssToken.{CssToken}
 use Rattle.css_declarations.specs.declared.context.Context.{Context}
 use Rattle.css_declarations.specs.declared.context.Context.TheVariants.{Rule}
 use Rattle.css_declarations.specs.ReadyDecls.{AreApart, AreReadyDecls, IsReadyDecl}

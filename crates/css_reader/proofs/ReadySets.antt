@@ -8,14 +8,14 @@ use Rattle.std.proofs.lemmas.Bool.{leb-true}
 use Rattle.std.proofs.lemmas.List.Elements.{All-from_recursion}
 use Rattle.page_model.specs.declared.keyframe.KeyframeSet.{KeyframeSet}
 use Rattle.page_model.specs.declared.rule.Decl.{Decl}
-use Rattle.text_scan.specs.declared.token.CssKind.{CssKind}
-use Rattle.text_scan.specs.declared.token.CssToken.{CssToken}
-use Rattle.text_scan.specs.CssTokens.{AreTokens, Begins}
-use Rattle.text_scan.specs.CssTokens.Begins.{nothing, gap, token}
-use Rattle.text_scan.proofs.CssShorter.{gap_shorter, front_shorter}
-use Rattle.css_values.specs.declared.fault.ValueFault.{ValueFault}
-use Rattle.css_values.specs.Quantities.{percentage_of}
-use Rattle.css_values.specs.Words.{words}
+use Rattle.style_tokens.specs.declared.token.CssKind.{CssKind}
+use Rattle.style_tokens.specs.declared.token.CssToken.{CssToken}
+use Rattle.style_tokens.specs.CssTokens.{AreTokens, Begins}
+use Rattle.style_tokens.specs.CssTokens.Begins.{nothing, gap, token}
+use Rattle.style_tokens.proofs.CssShorter.{gap_shorter, front_shorter}
+use Rattle.css_words.specs.declared.fault.ValueFault.{ValueFault}
+use Rattle.css_quantities.specs.Quantities.{percentage_of}
+use Rattle.css_words.specs.Words.{words}
 use Rattle.css_declarations.specs.declared.context.Context.TheVariants.{Block}
 use Rattle.css_declarations.specs.declared.fault.SheetFault.{SheetFault}
 use Rattle.css_declarations.specs.declared.fault.SheetFault.TheVariants.{BadSheet, BadKeyframes}

@@ -2,10 +2,10 @@
 use Rattle.std.proofs.Common.{refl, ◌≡◌, ℕ, ◌<◌, ◌≤◌, Bool, true, false, cond, List, [], ◌∷◌, ◌++◌, length, Ok, Err, sym, ap, ◌∙◌, subst, arith}
 use Rattle.page_model.specs.declared.rule.Compound.{Compound}
 use Rattle.page_model.specs.declared.rule.Decl.{Decl}
-use Rattle.text_scan.specs.declared.token.CssToken.{CssToken}
+use Rattle.style_tokens.specs.declared.token.CssToken.{CssToken}
 use Rattle.css_declarations.specs.declared.context.Context.{Context}
 use Rattle.css_declarations.specs.declared.context.Context.TheVariants.{Rule}
-use Rattle.text_scan.specs.declared.token.CssKind.{CssKind}
+use Rattle.style_tokens.specs.declared.token.CssKind.{CssKind}
 use Rattle.css_declarations.specs.declared.fault.SheetFault.{SheetFault}
 use Rattle.css_declarations.specs.declared.fault.SheetFault.TheVariants.{BadSheet}
 use Rattle.css_declarations.specs.DeclarationFaults.{AreAdded, IsTold}

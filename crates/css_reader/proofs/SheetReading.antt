@@ -2,9 +2,9 @@
 use Rattle.std.proofs.Common.{◌≡◌, ℕ, ◌<◌, ◌≤◌, Bool, true, false, cond, List, [], ◌∷◌, ◌++◌, length, Ok, Err, refl, sym, ap, ◌∙◌, subst, inr, arith}
 use Rattle.std.specs.Prelude.{codes, ◌&&◌, ◌==◌}
 use Rattle.page_model.specs.declared.place.Place.{Place}
-use Rattle.text_scan.specs.declared.token.CssToken.{CssToken}
-use Rattle.text_scan.specs.CssTokens.{AreTokens}
-use Rattle.css_values.specs.Keywords.{is_keyword}
+use Rattle.style_tokens.specs.declared.token.CssToken.{CssToken}
+use Rattle.style_tokens.specs.CssTokens.{AreTokens}
+use Rattle.css_words.specs.Keywords.{is_keyword}
 use Rattle.css_declarations.specs.declared.context.Context.TheVariants.{Rule}
 use Rattle.css_declarations.specs.declared.fault.SheetFault.{SheetFault}
 use Rattle.css_declarations.specs.declared.fault.SheetFault.TheVariants.{BadSheet}

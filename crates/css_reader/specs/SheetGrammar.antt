@@ -4,7 +4,7 @@ use Rattle.page_model.specs.declared.keyframe.KeyframeSet.{KeyframeSet}
 use Rattle.page_model.specs.declared.rule.Compound.{Compound}
 use Rattle.page_model.specs.declared.rule.Decl.{Decl}
 use Rattle.page_model.specs.declared.rule.Rule.{Rule as StyleRule}
-use Rattle.text_scan.specs.declared.token.CssToken.{CssToken}
+use Rattle.style_tokens.specs.declared.token.CssToken.{CssToken}
 use Rattle.css_declarations.specs.declared.context.Context.TheVariants.{Rule}
 use Rattle.css_declarations.specs.TokenKinds.{begins}
 use Rattle.css_parts.specs.KeyframeGrammar.{FrameBlock, Blocks, head_at, is_at_word, set_of}

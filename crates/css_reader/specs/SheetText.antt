@@ -1,8 +1,8 @@
 -- The style sheet of a part of a file, and its first fault.
 use Rattle.std.specs.Prelude.{ℕ, List, [], Result, Ok, Err, ◌⊎◌, ◌≡◌}
 use Rattle.page_model.specs.declared.place.Place.{Place}
-use Rattle.text_scan.specs.declared.token.CssToken.{CssToken}
-use Rattle.text_scan.specs.CssTokens.{AreTokens}
+use Rattle.style_tokens.specs.declared.token.CssToken.{CssToken}
+use Rattle.style_tokens.specs.CssTokens.{AreTokens}
 use Rattle.css_declarations.specs.declared.fault.SheetFault.{SheetFault}
 use Rattle.css_declarations.specs.DeclarationFaults.{IsTold}
 use Rattle.css_declarations.specs.InlineText.{IsTokenFault, part_of}

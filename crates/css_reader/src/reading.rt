@@ -1,6 +1,6 @@
 // Style sheets.
 ghost use Rattle.std.specs.Prelude.{◌≡◌, ◌≤◌, IfOk, length, Result as Outcome};
-ghost use Rattle.text_scan.specs.CssTokens.{AreTokens};
+ghost use Rattle.style_tokens.specs.CssTokens.{AreTokens};
 ghost use Rattle.css_declarations.specs.DeclarationReading.{Tells, shown};
 ghost use Rattle.css_declarations.specs.InlineText.{part_of};
 ghost use Rattle.css_declarations.specs.declared.fault.SheetFault.{SheetFault as Fault};
@@ -17,7 +17,7 @@ use css_declarations::SheetFault;
 use css_parts::tokens::begins_at_word;
 use page_model::Place;
 use std::alloc::Global;
-use text_scan::{CssToken, ScanFault, scan_css};
+use style_tokens::{CssToken, ScanFault, scan_css};
 
 /// A rule or a keyframe set is put in a sheet; the tokens behind it.
 fn item_at<'a>(

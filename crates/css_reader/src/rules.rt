@@ -11,7 +11,7 @@ use css_parts::selectors_at;
 use css_parts::tokens::{close_at, open_at};
 use page_model::{Decl, List, Rule};
 use std::alloc::Global;
-use text_scan::CssToken;
+use style_tokens::CssToken;
 
 /// Declarations in braces, and the tokens behind them.
 pub(crate) fn body_at<'a>(

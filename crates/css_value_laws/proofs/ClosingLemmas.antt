@@ -2,14 +2,15 @@
 use Rattle.std.proofs.Common.{ℕ, ℤ, pos, ◌≡◌, Bool, true, false, List, [], ◌∷◌, Option, Some, None, refl, inl, inr}
 use Rattle.page_model.specs.declared.animation.Count.{Count}
 use Rattle.page_model.specs.declared.easing.Jump.{Jump}
-use Rattle.text_scan.specs.declared.token.CssKind.TheVariants.{Ident, Number}
-use Rattle.css_values.specs.Words.{Word}
-use Rattle.css_value_laws.specs.SpelledEasings.{IsJump, IsSteps, IsCurve, SpellsEasing, PastEasing}
-use Rattle.css_value_laws.specs.SpelledNumbers.{Sign, word, IsMeasure}
-use Rattle.css_value_laws.specs.SpelledQuantities.{SpellsTime, PastTime, SpellsDuration, SpellsCount, PastCount}
-use Rattle.css_value_laws.specs.SpelledQuantities.SpellsCount.{endless, times}
-use Rattle.css_value_laws.specs.SpelledWords.{SpellsKeyword, SpellsName}
-use Rattle.css_value_laws.specs.ValueLaws.{NonePast}
+use Rattle.style_tokens.specs.declared.token.CssKind.TheVariants.{Ident, Number}
+use Rattle.css_words.specs.Words.{Word}
+use Rattle.css_easing_laws.specs.SpelledEasings.{IsJump, IsSteps, IsCurve, SpellsEasing, PastEasing}
+use Rattle.css_word_laws.specs.SpelledNumbers.{Sign, word, IsMeasure}
+use Rattle.css_quantity_laws.specs.SpelledQuantities.{SpellsTime, PastTime, SpellsDuration, SpellsCount, PastCount}
+use Rattle.css_quantity_laws.specs.SpelledQuantities.SpellsCount.{endless, times}
+use Rattle.css_word_laws.specs.SpelledWords.{SpellsKeyword}
+use Rattle.css_value_laws.specs.SpelledNames.{SpellsName}
+use Rattle.css_word_laws.specs.ValueLaws.{NonePast}
 use Rattle.css_value_laws.proofs.ListLemmas.{Closes, closes}
 
 number_closes : (words : List Word) (bytes : List ℕ) → words ≡ word Number bytes ∷ [] → closes false words ≡ true

@@ -1,14 +1,4 @@
 pub mod ClosingLemmas
-pub mod ColourLemmas
-pub mod EasingLemmas
-pub mod EasingReadings
-pub mod FrontLemmas
-pub mod KeywordLemmas
 pub mod ListLemmas
-pub mod MeasureLemmas
-pub mod NumberLemmas
-pub mod QuantityLemmas
-pub mod Readings
-pub mod SizeLemmas
+pub mod NameLemmas
 pub mod TableLemmas
-pub mod WordLemmas

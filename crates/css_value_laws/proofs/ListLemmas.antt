@@ -1,16 +1,16 @@
 -- Lists that are read are those that are spelled.
 use Rattle.std.proofs.Common.{ℕ, ◌≡◌, ◌∙◌, ◌⊎◌, ◌&&◌, not, Bool, true, false, cond, List, [], ◌∷◌, ◌++◌, map, Option, Some, None, Result, Ok, Err, refl, ap, sym, subst, inl, inr}
 use Rattle.std.proofs.lemmas.Bool.{cases_Bool}
-use Rattle.text_scan.specs.declared.token.CssKind.{CssKind}
-use Rattle.text_scan.specs.declared.token.CssKind.TheVariants.{Comma}
-use Rattle.css_values.specs.declared.fault.ValueFault.{ValueFault}
-use Rattle.css_values.specs.declared.fault.ValueFault.TheVariants.{BadValue, OverLimit, NoMemory}
-use Rattle.css_values.specs.Lists.{goes_in, before_first, pieces, with_item, gather, list_of}
-use Rattle.css_values.specs.Words.{Word, is_comma}
+use Rattle.style_tokens.specs.declared.token.CssKind.{CssKind}
+use Rattle.style_tokens.specs.declared.token.CssKind.TheVariants.{Comma}
+use Rattle.css_words.specs.declared.fault.ValueFault.{ValueFault}
+use Rattle.css_words.specs.declared.fault.ValueFault.TheVariants.{BadValue, OverLimit, NoMemory}
+use Rattle.css_items.specs.Lists.{goes_in, before_first, pieces, with_item, gather, list_of}
+use Rattle.css_words.specs.Words.{Word, is_comma}
 use Rattle.css_value_laws.specs.SpelledLists.{IsList, IsMarked, HasPast, IsPastList}
 use Rattle.css_value_laws.specs.SpelledLists.IsList.{last, more}
-use Rattle.css_value_laws.specs.SpelledNumbers.{word}
-use Rattle.css_value_laws.proofs.Readings.{Reads}
+use Rattle.css_word_laws.specs.SpelledNumbers.{word}
+use Rattle.css_word_laws.proofs.Readings.{Reads}
 
 -- no comma stands outside parentheses, and each is closed
 abbrev pub closes : Bool → List Word → Bool

@@ -1,8 +1,8 @@
 -- Lists of items with commas between.
 use Rattle.std.specs.Prelude.{ℕ, List, [], ◌∷◌, ◌++◌, Option, Some, None}
-use Rattle.text_scan.specs.declared.token.CssKind.TheVariants.{Comma}
-use Rattle.css_values.specs.Words.{Word}
-use Rattle.css_value_laws.specs.SpelledNumbers.{word}
+use Rattle.style_tokens.specs.declared.token.CssKind.TheVariants.{Comma}
+use Rattle.css_words.specs.Words.{Word}
+use Rattle.css_word_laws.specs.SpelledNumbers.{word}
 
 -- the words are items with commas between, each of which spells its value
 pub data IsList {A : Type 0} (Spells : List Word → A → Type 0) : List Word → List A → Type 0 where

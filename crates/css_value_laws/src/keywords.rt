@@ -1,8 +1,9 @@
 // Keywords of a table, and names.
-ghost use Rattle.css_values.specs.Keywords.{direction_words, fill_words, play_words, visibility_words};
-ghost use Rattle.css_values.specs.Names.{keyword_of, name_of};
-ghost use Rattle.css_value_laws.specs.SpelledWords.{SpellsKeyword, SpellsName};
-ghost use Rattle.css_value_laws.specs.ValueLaws.{Agrees, NonePast};
+ghost use Rattle.css_items.specs.ItemWords.{direction_words, fill_words, play_words, visibility_words};
+ghost use Rattle.css_items.specs.Names.{keyword_of, name_of};
+ghost use Rattle.css_word_laws.specs.SpelledWords.{SpellsKeyword};
+ghost use Rattle.css_value_laws.specs.SpelledNames.{SpellsName};
+ghost use Rattle.css_word_laws.specs.ValueLaws.{Agrees, NonePast};
 
 /// Keywords are read as they are spelled, by a table without two words that are one.
 pub fn keywords_are_spelled()

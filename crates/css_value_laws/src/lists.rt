@@ -1,15 +1,16 @@
 // Lists.
 ghost use Rattle.std.specs.Prelude.{false, true};
-ghost use Rattle.css_values.specs.Easings.{easing_of};
-ghost use Rattle.css_values.specs.Keywords.{direction_words, fill_words, play_words};
-ghost use Rattle.css_values.specs.Lists.{list_of};
-ghost use Rattle.css_values.specs.Names.{keyword_of, name_of};
-ghost use Rattle.css_values.specs.Quantities.{count_of, duration_of, time_of};
-ghost use Rattle.css_value_laws.specs.SpelledEasings.{PastEasing, SpellsEasing};
+ghost use Rattle.css_easings.specs.Easings.{easing_of};
+ghost use Rattle.css_items.specs.ItemWords.{direction_words, fill_words, play_words};
+ghost use Rattle.css_items.specs.Lists.{list_of};
+ghost use Rattle.css_items.specs.Names.{keyword_of, name_of};
+ghost use Rattle.css_quantities.specs.Quantities.{count_of, duration_of, time_of};
+ghost use Rattle.css_easing_laws.specs.SpelledEasings.{PastEasing, SpellsEasing};
 ghost use Rattle.css_value_laws.specs.SpelledLists.{IsList, IsPastList};
-ghost use Rattle.css_value_laws.specs.SpelledQuantities.{PastCount, PastTime, SpellsCount, SpellsDuration, SpellsTime};
-ghost use Rattle.css_value_laws.specs.SpelledWords.{SpellsKeyword, SpellsName};
-ghost use Rattle.css_value_laws.specs.ValueLaws.{Agrees, NonePast};
+ghost use Rattle.css_quantity_laws.specs.SpelledQuantities.{PastCount, PastTime, SpellsCount, SpellsDuration, SpellsTime};
+ghost use Rattle.css_word_laws.specs.SpelledWords.{SpellsKeyword};
+ghost use Rattle.css_value_laws.specs.SpelledNames.{SpellsName};
+ghost use Rattle.css_word_laws.specs.ValueLaws.{Agrees, NonePast};
 
 /// Lists of each kind are read as they are spelled: items with commas between. One that is wrong makes the list wrong,
 /// and else one past its limit makes it past its limit.

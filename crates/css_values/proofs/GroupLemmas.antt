@@ -1,8 +1,8 @@
 -- The words of an item, one after the other.
 use Rattle.std.proofs.Common.{ℕ, ◌≡◌, ◌∙◌, ◌<◌, true, false, List, [], ◌∷◌, length, take, drop, refl, ap, sym, inl, inr, arith}
 use Rattle.std.proofs.lemmas.Bool.{cases_Bool}
-use Rattle.text_scan.specs.declared.token.CssToken.{CssToken}
-use Rattle.css_values.specs.Words.{words}
+use Rattle.style_tokens.specs.declared.token.CssToken.{CssToken}
+use Rattle.css_words.specs.Words.{words}
 use Rattle.css_values.specs.ShorthandGrammar.{ends_word, groups, word_length}
 
 in_word : (text : List ℕ) (tokens : List CssToken) →

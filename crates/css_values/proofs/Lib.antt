@@ -1,11 +1,3 @@
-pub mod DigitLemmas
 pub mod GroupLemmas
-pub mod ListLemmas
-pub mod PieceLemmas
-pub mod PointLemmas
-pub mod ValidColours
-pub mod ValidEasings
-pub mod ValidLists
 pub mod ValidLonghands
-pub mod ValidNumbers
 pub mod ValidShorthand

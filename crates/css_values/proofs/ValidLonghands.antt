@@ -6,24 +6,28 @@ use Rattle.std.proofs.lemmas.List.Elements.{All-map}
 use Rattle.page_model.specs.declared.rule.Longhand.{Longhand}
 use Rattle.page_model.specs.declared.rule.Longhand.TheVariants as longhands
 use Rattle.page_model.specs.ValidScene.{IsEasing, IsCount}
-use Rattle.css_values.specs.declared.fault.ValueFault.{ValueFault}
-use Rattle.css_values.specs.declared.shorthand.Shorthand.{Shorthand}
+use Rattle.css_words.specs.declared.fault.ValueFault.{ValueFault}
+use Rattle.css_columns.specs.declared.item.Shorthand.{Shorthand}
 use Rattle.css_values.specs.declared.types.Property.{Property}
 use Rattle.css_values.specs.declared.types.Property.TheVariants.{Position, Left, Top, Width, Height, BackgroundColor, Background, Opacity, Visibility, ZIndex, Margin, Padding, AnimationName, AnimationDuration, AnimationDelay, AnimationTimingFunction, AnimationIterationCount, AnimationDirection, AnimationFillMode, AnimationPlayState, Animation}
-use Rattle.css_values.specs.Colours.{colour_of}
-use Rattle.css_values.specs.Easings.{easing_of}
-use Rattle.css_values.specs.Keywords.{direction_words, fill_words, play_words, visibility_words}
-use Rattle.css_values.specs.Lists.{list_of, Gives}
-use Rattle.css_values.specs.Names.{keyword_of, name_of}
-use Rattle.css_values.specs.Quantities.{count_of, duration_of, is_nothing, length_of, opacity_of, time_of, z_index_of}
+use Rattle.css_colours.specs.Colours.{colour_of}
+use Rattle.css_easings.specs.Easings.{easing_of}
+use Rattle.css_items.specs.ItemWords.{direction_words, fill_words, play_words, visibility_words}
+use Rattle.css_items.specs.Lists.{list_of, Gives}
+use Rattle.css_items.specs.Names.{keyword_of, name_of}
+use Rattle.css_quantities.specs.Quantities.{count_of, duration_of, is_nothing, length_of, opacity_of, time_of, z_index_of}
 use Rattle.css_values.specs.ShorthandGrammar.{item_of}
-use Rattle.css_values.specs.ValidValues.{IsTime, AreItems, IsAny, IsLonghand}
-use Rattle.css_values.specs.ValueGrammar.{only_if, longhand_of, columns, is_shorthand, declaration_of}
-use Rattle.css_values.specs.Words.{Word, is_lone}
-use Rattle.css_values.proofs.ValidNumbers.{if_ok, mapped_ok, length_is, extent_is, time_is, duration_is, opacity_is, level_is, count_is}
-use Rattle.css_values.proofs.ValidColours.{colour_is}
-use Rattle.css_values.proofs.ValidEasings.{easing_is}
-use Rattle.css_values.proofs.ValidLists.{all_from, list_is}
+use Rattle.css_quantities.specs.ValidQuantities.{IsTime}
+use Rattle.css_items.specs.ValidItems.{AreItems, IsAny}
+use Rattle.css_values.specs.ValidValues.{IsLonghand}
+use Rattle.css_values.specs.ValueGrammar.{only_if, longhand_of, is_shorthand, declaration_of}
+use Rattle.css_columns.specs.Columns.{columns}
+use Rattle.css_words.specs.Words.{Word, is_lone}
+use Rattle.css_words.proofs.GivenLemmas.{if_ok, mapped_ok}
+use Rattle.css_quantities.proofs.ValidNumbers.{length_is, extent_is, time_is, duration_is, opacity_is, level_is, count_is}
+use Rattle.css_colours.proofs.ValidColours.{colour_is}
+use Rattle.css_easings.proofs.ValidEasings.{easing_is}
+use Rattle.css_items.proofs.ValidLists.{all_from, list_is}
 use Rattle.css_values.proofs.ValidShorthand.{IsItem, item_is}
 
 only_is : (b : Bool) (longhand : Longhand) → IsLonghand longhand → (l : Longhand) → only_if b longhand ≡ Ok l → IsLonghand l

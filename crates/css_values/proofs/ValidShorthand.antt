@@ -6,18 +6,19 @@ use Rattle.page_model.specs.declared.animation.Direction.TheVariants.{Normal}
 use Rattle.page_model.specs.declared.animation.Fill.TheVariants.{Absent}
 use Rattle.page_model.specs.declared.easing.Easing.TheVariants.{Cubic}
 use Rattle.page_model.specs.ValidScene.{IsEasing, IsCount}
-use Rattle.css_values.specs.declared.fault.ValueFault.{ValueFault}
-use Rattle.css_values.specs.declared.fault.ValueFault.TheVariants.{BadValue, OverLimit, NoMemory}
-use Rattle.css_values.specs.declared.shorthand.Shorthand.{Shorthand}
-use Rattle.css_values.specs.Easings.{easing_of}
-use Rattle.css_values.specs.Keywords.{direction_words, fill_words, play_words}
-use Rattle.css_values.specs.Names.{keyword_of, name_of}
-use Rattle.css_values.specs.Quantities.{count_of, duration_of, time_of}
+use Rattle.css_words.specs.declared.fault.ValueFault.{ValueFault}
+use Rattle.css_words.specs.declared.fault.ValueFault.TheVariants.{BadValue, OverLimit, NoMemory}
+use Rattle.css_columns.specs.declared.item.Shorthand.{Shorthand}
+use Rattle.css_easings.specs.Easings.{easing_of}
+use Rattle.css_items.specs.ItemWords.{direction_words, fill_words, play_words}
+use Rattle.css_items.specs.Names.{keyword_of, name_of}
+use Rattle.css_quantities.specs.Quantities.{count_of, duration_of, time_of}
 use Rattle.css_values.specs.ShorthandGrammar.{Slots, free, taken, chosen, take_time, take_easing, take_count, take_direction, take_fill, take_play, take_name, take_keyword, take_word, take_all, is_value, groups, settled, item_of}
-use Rattle.css_values.specs.ValidValues.{IsTime}
-use Rattle.css_values.specs.Words.{Word, or_else}
-use Rattle.css_values.proofs.ValidNumbers.{if_ok, bad_ok, duration_is, time_is, count_is}
-use Rattle.css_values.proofs.ValidEasings.{easing_is, small_curve}
+use Rattle.css_quantities.specs.ValidQuantities.{IsTime}
+use Rattle.css_words.specs.Words.{Word, or_else}
+use Rattle.css_words.proofs.GivenLemmas.{if_ok, bad_ok}
+use Rattle.css_quantities.proofs.ValidNumbers.{duration_is, time_is, count_is}
+use Rattle.css_easings.proofs.ValidEasings.{easing_is, small_curve}
 
 -- the numbers of an item are in their limits
 pub record IsItem (s : Shorthand) : Type 0 where

@@ -1,15 +1,5 @@
-pub mod Colours
-pub mod EasingViews
-pub mod Easings
-pub mod Keywords
-pub mod ListReading
-pub mod Lists
-pub mod Names
-pub mod NumeralViews
-pub mod Numerals
-pub mod Quantities
+pub mod PropertyNames
 pub mod ShorthandGrammar
 pub mod ShorthandViews
 pub mod ValidValues
 pub mod ValueGrammar
-pub mod Words

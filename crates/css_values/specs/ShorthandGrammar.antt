@@ -8,18 +8,18 @@ use Rattle.page_model.specs.declared.animation.Fill.{Fill}
 use Rattle.page_model.specs.declared.animation.Fill.TheVariants.{Absent}
 use Rattle.page_model.specs.declared.easing.Easing.{Easing}
 use Rattle.page_model.specs.declared.easing.Easing.TheVariants.{Linear, Cubic}
-use Rattle.text_scan.specs.declared.token.CssKind.{CssKind}
-use Rattle.text_scan.specs.declared.token.CssKind.TheVariants.{Function, RightParen}
-use Rattle.text_scan.specs.declared.token.CssToken.{CssToken}
-use Rattle.css_values.specs.declared.fault.ValueFault.{ValueFault}
-use Rattle.css_values.specs.declared.fault.ValueFault.TheVariants.{BadValue, OverLimit, NoMemory}
-use Rattle.css_values.specs.declared.shorthand.Shorthand.{Shorthand}
-use Rattle.css_values.specs.Easings.{easing_of}
-use Rattle.css_values.specs.Keywords.{direction_words, fill_words, play_words}
-use Rattle.css_values.specs.Lists.{before_first}
-use Rattle.css_values.specs.Names.{keyword_of, name_of}
-use Rattle.css_values.specs.Quantities.{count_of, duration_of, time_of}
-use Rattle.css_values.specs.Words.{Word, or_bad, or_else}
+use Rattle.style_tokens.specs.declared.token.CssKind.{CssKind}
+use Rattle.style_tokens.specs.declared.token.CssKind.TheVariants.{Function, RightParen}
+use Rattle.style_tokens.specs.declared.token.CssToken.{CssToken}
+use Rattle.css_words.specs.declared.fault.ValueFault.{ValueFault}
+use Rattle.css_words.specs.declared.fault.ValueFault.TheVariants.{BadValue, OverLimit, NoMemory}
+use Rattle.css_columns.specs.declared.item.Shorthand.{Shorthand}
+use Rattle.css_easings.specs.Easings.{easing_of}
+use Rattle.css_items.specs.ItemWords.{direction_words, fill_words, play_words}
+use Rattle.css_items.specs.Lists.{before_first}
+use Rattle.css_items.specs.Names.{keyword_of, name_of}
+use Rattle.css_quantities.specs.Quantities.{count_of, duration_of, time_of}
+use Rattle.css_words.specs.Words.{Word, or_bad, or_else}
 
 -- whether a token of this kind ends a word: a function's word ends with its `)`
 abbrev pub ends_word : Bool → CssKind → Bool

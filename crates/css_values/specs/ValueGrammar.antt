@@ -1,20 +1,20 @@
 -- The value of each property: its longhands, in the order of the variants of Longhand.
-use Rattle.std.specs.Prelude.{Bool, true, false, List, [], ◌∷◌, map, Result, Ok, Err, codes, if◌then◌else◌}
+use Rattle.std.specs.Prelude.{Bool, true, false, List, [], ◌∷◌, Result, Ok, Err, codes, if◌then◌else◌}
 use Rattle.page_model.specs.declared.rule.Longhand.{Longhand}
 use Rattle.page_model.specs.declared.rule.Longhand.TheVariants as longhands
-use Rattle.css_values.specs.declared.fault.ValueFault.{ValueFault}
-use Rattle.css_values.specs.declared.fault.ValueFault.TheVariants.{BadValue}
-use Rattle.css_values.specs.declared.shorthand.Shorthand.{Shorthand}
+use Rattle.css_words.specs.declared.fault.ValueFault.{ValueFault}
+use Rattle.css_words.specs.declared.fault.ValueFault.TheVariants.{BadValue}
+use Rattle.css_columns.specs.Columns.{columns}
 use Rattle.css_values.specs.declared.types.Property.{Property}
 use Rattle.css_values.specs.declared.types.Property.TheVariants.{Position, Left, Top, Width, Height, BackgroundColor, Background, Opacity, Visibility, ZIndex, Margin, Padding, AnimationName, AnimationDuration, AnimationDelay, AnimationTimingFunction, AnimationIterationCount, AnimationDirection, AnimationFillMode, AnimationPlayState, Animation}
-use Rattle.css_values.specs.Colours.{colour_of}
-use Rattle.css_values.specs.Easings.{easing_of}
-use Rattle.css_values.specs.Keywords.{direction_words, fill_words, play_words, visibility_words}
-use Rattle.css_values.specs.Lists.{list_of}
-use Rattle.css_values.specs.Names.{keyword_of, name_of}
-use Rattle.css_values.specs.Quantities.{count_of, duration_of, is_nothing, length_of, opacity_of, time_of, z_index_of}
+use Rattle.css_colours.specs.Colours.{colour_of}
+use Rattle.css_easings.specs.Easings.{easing_of}
+use Rattle.css_items.specs.ItemWords.{direction_words, fill_words, play_words, visibility_words}
+use Rattle.css_items.specs.Lists.{list_of}
+use Rattle.css_items.specs.Names.{keyword_of, name_of}
+use Rattle.css_quantities.specs.Quantities.{count_of, duration_of, is_nothing, length_of, opacity_of, time_of, z_index_of}
 use Rattle.css_values.specs.ShorthandGrammar.{item_of}
-use Rattle.css_values.specs.Words.{Word, is_lone, mapped}
+use Rattle.css_words.specs.Words.{Word, is_lone, mapped}
 
 -- one value, where a test holds
 abbrev pub only_if : Bool → Longhand → Result Longhand ValueFault
@@ -43,14 +43,6 @@ longhand_of AnimationDirection words = mapped longhands.Directions (list_of (key
 longhand_of AnimationFillMode words = mapped longhands.Fills (list_of (keyword_of fill_words) words)
 longhand_of AnimationPlayState words = mapped longhands.Paused (list_of (keyword_of play_words) words)
 longhand_of Animation words = Err BadValue
-
--- the eight longhands of the shorthand, each with its part of each item
-abbrev pub columns : List Shorthand → List Longhand
-columns items =
-    longhands.Names (map (λ (i : Shorthand). i.name) items) ∷ longhands.Durations (map (λ (i : Shorthand). i.duration) items)
-    ∷ longhands.Easings (map (λ (i : Shorthand). i.easing) items) ∷ longhands.Delays (map (λ (i : Shorthand). i.delay) items)
-    ∷ longhands.Counts (map (λ (i : Shorthand). i.count) items) ∷ longhands.Directions (map (λ (i : Shorthand). i.direction) items)
-    ∷ longhands.Fills (map (λ (i : Shorthand). i.fill) items) ∷ longhands.Paused (map (λ (i : Shorthand). i.paused) items) ∷ []
 
 abbrev pub is_shorthand : Property → Bool
 is_shorthand Animation = true

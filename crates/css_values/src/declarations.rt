@@ -1,24 +1,23 @@
 // The value of a declaration: CSS Cascading Level 3 has what a shorthand sets.
 ghost use Rattle.std.specs.Prelude.{◌≡◌, ◌∷◌, [], All, IfOk};
-ghost use Rattle.css_values.specs.Lists.{Gives, list_of};
+ghost use Rattle.css_items.specs.Lists.{Gives, list_of};
 ghost use Rattle.css_values.specs.ShorthandGrammar.{item_of};
 ghost use Rattle.css_values.specs.ValidValues.{IsLonghand};
-ghost use Rattle.css_values.specs.ValueGrammar.{columns, declaration_of, is_shorthand, longhand_of, only_if};
-ghost use Rattle.css_values.specs.Words.{mapped, words};
+ghost use Rattle.css_columns.specs.Columns.{columns};
+ghost use Rattle.css_values.specs.ValueGrammar.{declaration_of, is_shorthand, longhand_of, only_if};
+ghost use Rattle.css_words.specs.Words.{mapped, words};
 
-use crate::colours::colour;
-use crate::columns::columns;
-use crate::fault::ValueFault;
 use crate::items::{Counts, Delays, Directions, Durations, Easings, Fills, Names, Plays};
-use crate::lists::list_of;
-use crate::names::visibility;
-use crate::quantity::{is_nothing, length, opacity, z_index};
 use crate::shorthand::Shorthands;
 use crate::types::Property;
-use crate::word::is_lone;
+use css_colours::colour;
+use css_columns::columns;
+use css_items::{list_of, visibility};
+use css_quantities::{is_nothing, length, opacity, z_index};
+use css_words::{ValueFault, is_lone};
 use page_model::{List, Longhand, NoMemory};
 use std::alloc::Global;
-use text_scan::CssToken;
+use style_tokens::CssToken;
 
 /// One value, where a test holds.
 fn only_if(holds: bool, longhand: Longhand) -> Result<Longhand, ValueFault>

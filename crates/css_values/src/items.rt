@@ -1,18 +1,17 @@
 // The kinds of items that lists are made of.
-ghost use Rattle.css_values.specs.Easings.{easing_of};
-ghost use Rattle.css_values.specs.Keywords.{direction_words, fill_words, play_words};
-ghost use Rattle.css_values.specs.Names.{keyword_of, name_of};
-ghost use Rattle.css_values.specs.Quantities.{count_of, duration_of, time_of};
+ghost use Rattle.css_easings.specs.Easings.{easing_of};
+ghost use Rattle.css_items.specs.ItemWords.{direction_words, fill_words, play_words};
+ghost use Rattle.css_items.specs.Names.{keyword_of, name_of};
+ghost use Rattle.css_quantities.specs.Quantities.{count_of, duration_of, time_of};
 ghost use Rattle.std.specs.Prelude.{true};
 
-use crate::easings::easing;
-use crate::fault::ValueFault;
-use crate::lists::Item;
-use crate::names::{direction, fill, name_text, owned_name, play};
-use crate::quantity::{count, duration, time};
+use css_easings::easing;
+use css_items::{Item, direction, fill, name_text, owned_name, play};
+use css_quantities::{count, duration, time};
+use css_words::ValueFault;
 use page_model::{Count, Direction, Easing, Fill, Name};
 use std::alloc::Global;
-use text_scan::CssToken;
+use style_tokens::CssToken;
 
 /// The names of `animation-name`: `None` for `none`.
 pub struct Names;

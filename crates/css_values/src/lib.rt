@@ -13,28 +13,15 @@
 //! Which declaration wins, and whether a name has a keyframe set, is not looked at.
 #![tactic(auto)]
 
-mod colours;
-mod columns;
 mod declarations;
-mod digits;
-mod easings;
-mod fault;
 mod items;
-mod keyword;
-mod lists;
-mod names;
-mod numeral;
-mod quantity;
 mod shorthand;
 mod tables;
-#[cfg(test)]
-mod tests;
 pub mod types;
-mod word;
 
-pub use colours::colour;
+pub use css_colours::colour;
+pub use css_easings::easing;
+pub use css_quantities::{length, opacity, percentage, time, z_index};
+pub use css_words::ValueFault;
 pub use declarations::declaration;
-pub use easings::easing;
-pub use fault::ValueFault;
-pub use quantity::{length, opacity, percentage, time, z_index};
 pub use tables::property;

@@ -1,34 +1,21 @@
 // The shorthand `animation`: CSS Animations Level 1, as a profile.
 ghost use Rattle.std.specs.Prelude.{◌≡◌, ◌∷◌, ◌<◌, ◌≤◌, false, true, length, option_copied, option_map, unwrap_or};
-ghost use Rattle.css_values.specs.Lists.{Gives};
-ghost use Rattle.css_values.specs.Quantities.{time_of};
+ghost use Rattle.css_items.specs.Lists.{Gives};
+ghost use Rattle.css_quantities.specs.Quantities.{time_of};
 ghost use Rattle.css_values.specs.ShorthandGrammar.{ends_word, free, is_value, item_of, settled, take_all, take_count};
 ghost use Rattle.css_values.specs.ShorthandGrammar.{take_direction, take_easing, take_fill, take_keyword, take_name};
 ghost use Rattle.css_values.specs.ShorthandGrammar.{groups, take_play, take_time, take_word, word_length};
 ghost use Rattle.css_values.specs.ShorthandViews.{held};
-ghost use Rattle.css_values.specs.Words.{words};
+ghost use Rattle.css_words.specs.Words.{words};
 
-use crate::easings::easing;
-use crate::fault::ValueFault;
-use crate::lists::Item;
-use crate::names::{direction, fill, name_text, owned_name, play};
-use crate::quantity::{count, duration, time};
-use page_model::{Count, Direction, Easing, Fill, Name};
+use css_columns::Shorthand;
+use css_easings::easing;
+use css_items::{Item, direction, fill, name_text, owned_name, play};
+use css_quantities::{count, duration, time};
+use css_words::ValueFault;
+use page_model::{Count, Direction, Easing, Fill};
 use std::alloc::Global;
-use text_scan::{CssKind, CssToken};
-
-/// An item of the shorthand, with initial values where it has no word.
-#[derive(Drop)]
-pub struct Shorthand {
-    pub name: Option<Name>,
-    pub duration: u32,
-    pub easing: Easing,
-    pub delay: i32,
-    pub count: Count,
-    pub direction: Direction,
-    pub fill: Fill,
-    pub paused: bool,
-}
+use style_tokens::{CssKind, CssToken};
 
 /// What the words of an item took, and whether one was past its limit.
 #[derive(Clone, Copy)]

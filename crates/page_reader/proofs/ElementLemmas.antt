@@ -2,10 +2,10 @@
 use Rattle.std.proofs.Common.{◌≡◌, ℕ, Bool, List, Some, None, refl}
 use Rattle.page_model.specs.declared.element.Tag.{Tag}
 use Rattle.page_model.specs.declared.place.Place.{Place}
-use Rattle.text_scan.specs.HtmlTags.{Attribute}
-use Rattle.text_scan.specs.HtmlShown.{content_of}
-use Rattle.text_scan.specs.declared.token.HtmlKind.{HtmlKind}
-use Rattle.text_scan.specs.declared.token.HtmlKind.TheVariants.{Doctype, Opening, Closing, Raw}
+use Rattle.page_tokens.specs.HtmlTags.{Attribute}
+use Rattle.page_tokens.specs.HtmlShown.{content_of}
+use Rattle.page_tokens.specs.declared.token.HtmlKind.{HtmlKind}
+use Rattle.page_tokens.specs.declared.token.HtmlKind.TheVariants.{Doctype, Opening, Closing, Raw}
 use Rattle.page_reader.specs.PageSymbols.{symbol_at, closing_symbol, tag_named}
 use Rattle.page_reader.specs.PageElements.{attributes_of, element_tag}
 use Rattle.page_reader.specs.declared.tag_name.TagName.{TagName}

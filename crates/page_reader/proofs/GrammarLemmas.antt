@@ -2,7 +2,7 @@
 use Rattle.std.proofs.Common.{◌≡◌, ℕ, zero, suc, ◌+◌, ◌≤◌, Bool, true, false, List, [], ◌∷◌, ◌++◌, length, take, map, Option, Some, None, Ok, Err, refl, sym, ap, ◌∙◌, subst, arith}
 use Rattle.std.specs.Prelude.{is_some, unwrap_or}
 use Rattle.page_model.specs.declared.place.Place.{Place}
-use Rattle.text_scan.specs.HtmlText.{Word}
+use Rattle.page_tokens.specs.HtmlText.{Word}
 use Rattle.page_reader.specs.PageSymbols.{symbol_of}
 use Rattle.page_reader.specs.PageGrammar.{HeadItem, meta, title, style, item_symbols, title_count, style_count, nowhere, sheet_of, box_symbols, body_symbols, page_symbols, SpellPage, StopAt, start_of}
 use Rattle.page_reader.specs.PageReading.{next_stage, sheet_seen, ended, judged_next, judged}

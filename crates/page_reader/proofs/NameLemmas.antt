@@ -10,7 +10,7 @@ use Rattle.std.specs.List.{list_any}
 use Rattle.std.specs.Str.{bytes_eq, str_to_ascii_lowercase}
 use Rattle.std.proofs.lemmas.Bool.Decides.{nat_tests}
 use Rattle.std.proofs.lemmas.Map.Text.{is_eq-slice_cmp}
-use Rattle.text_scan.specs.HtmlTags.{Attribute}
+use Rattle.page_tokens.specs.HtmlTags.{Attribute}
 use Rattle.page_reader.specs.PageNames.{texts, has, IsAdded}
 use Rattle.page_reader.specs.PageSymbols.{are_distinct, is_named}
 

@@ -7,8 +7,8 @@ use Rattle.page_model.specs.declared.element.Element.{Element}
 use Rattle.page_model.specs.declared.element.PageText.{PageText}
 use Rattle.page_model.specs.declared.element.Tag.{Tag}
 use Rattle.page_model.specs.declared.element.Tag.TheVariants as tag
-use Rattle.text_scan.specs.HtmlTags.{Attribute}
-use Rattle.text_scan.specs.HtmlText.{Word}
+use Rattle.page_tokens.specs.HtmlTags.{Attribute}
+use Rattle.page_tokens.specs.HtmlText.{Word}
 use Rattle.page_reader.specs.PageElements.{attributes_of, element_tag, element_with, elements_of}
 use Rattle.page_reader.specs.PageGrammar.{HeadItem, meta, title, style, Parts, body_symbols, box_symbols, item_symbols, page_symbols}
 use Rattle.page_reader.specs.PageSymbols.{symbol_of}

@@ -6,12 +6,11 @@ use Rattle.std.proofs.lemmas.Bool.{cases_order}
 use Rattle.page_model.specs.declared.element.Element.{Element}
 use Rattle.page_model.specs.declared.element.PageText.{PageText}
 use Rattle.page_model.specs.declared.place.Place.{Place}
-use Rattle.text_scan.specs.HtmlText.{Word, IsText, IsStuck, AreWordsOf}
-use Rattle.text_scan.specs.HtmlText as scan
-use Rattle.text_scan.specs.HtmlText.{IsScanFault}
-use Rattle.text_scan.specs.declared.fault.ScanFault.{ScanFault}
-use Rattle.text_scan.specs.declared.fault.ScanFault.TheVariants.{BadToken, NoMemory as Unscanned}
-use Rattle.text_scan.proofs.HtmlTextLemmas.{one_text, one_stuck, stuck_is_no_text}
+use Rattle.page_tokens.specs.HtmlText.{Word, IsText, IsStuck, AreWordsOf, IsScanFault}
+use Rattle.page_tokens.specs.HtmlText as scan
+use Rattle.text_tokens.specs.declared.fault.ScanFault.{ScanFault}
+use Rattle.text_tokens.specs.declared.fault.ScanFault.TheVariants.{BadToken, NoMemory as Unscanned}
+use Rattle.page_tokens.proofs.HtmlTextLemmas.{one_text, one_stuck, stuck_is_no_text}
 use Rattle.page_reader.specs.PageSymbols.{symbol_of}
 use Rattle.page_reader.specs.PageGrammar.{SpellPage, StopAt, start_of}
 use Rattle.page_reader.specs.PageReading.{judged, told}

@@ -8,11 +8,11 @@ use Rattle.std.proofs.lemmas.List.Elements.{All-from_recursion}
 use Rattle.page_model.specs.declared.element.Element.{Element}
 use Rattle.page_model.specs.declared.element.PageText.{PageText}
 use Rattle.page_model.specs.declared.element.Tag.{Tag}
-use Rattle.text_scan.specs.HtmlRuns.{is_raw_byte}
-use Rattle.text_scan.specs.HtmlTags.{Attribute}
-use Rattle.text_scan.specs.HtmlPieces.{Content, doctype, opening, closing, raw, Piece, between, token, IsPiece, after_opening, after_piece, after_token}
-use Rattle.text_scan.specs.HtmlText.{Step, IsPath, Word, place_between, with_token, words_of}
-use Rattle.text_scan.proofs.HtmlRunLemmas.{run_shorter}
+use Rattle.page_tokens.specs.HtmlRuns.{is_raw_byte}
+use Rattle.page_tokens.specs.HtmlTags.{Attribute}
+use Rattle.page_tokens.specs.HtmlPieces.{Content, doctype, opening, closing, raw, Piece, between, token, IsPiece, after_opening, after_piece, after_token}
+use Rattle.page_tokens.specs.HtmlText.{Step, IsPath, Word, place_between, with_token, words_of}
+use Rattle.page_tokens.proofs.HtmlRunLemmas.{run_shorter}
 use Rattle.page_reader.specs.PageElements.{attributes_of, element_tag, element_with, elements_of, style_in}
 use Rattle.page_reader.specs.PageGrammar.{HeadItem, meta, title, style, body_symbols, item_symbols, sheet_of}
 use Rattle.page_reader.specs.PageSymbols.{are_box_attributes, are_html_attributes, are_meta_attributes, are_none, closing_symbol, opening_symbol, symbol_at, symbol_of, tag_named, where_good}

@@ -6,10 +6,10 @@ use Rattle.page_model.specs.declared.place.Place.{Place}
 use Rattle.page_model.specs.declared.element.Element.{Element}
 use Rattle.page_model.specs.declared.element.Tag.{Tag}
 use Rattle.page_model.specs.declared.element.Tag.TheVariants as tag
-use Rattle.text_scan.specs.Classes.{is_white}
-use Rattle.text_scan.specs.HtmlTags.{Attribute}
-use Rattle.text_scan.specs.HtmlPieces.{Content, doctype, opening, closing, raw}
-use Rattle.text_scan.specs.HtmlText.{Word}
+use Rattle.text_tokens.specs.Classes.{is_white}
+use Rattle.page_tokens.specs.HtmlTags.{Attribute}
+use Rattle.page_tokens.specs.HtmlPieces.{Content, doctype, opening, closing, raw}
+use Rattle.page_tokens.specs.HtmlText.{Word}
 use Rattle.page_reader.specs.PageSymbols.{symbol_of, is_named}
 use Rattle.page_reader.specs.PageGrammar.{nowhere}
 use Rattle.page_reader.specs.declared.symbol.Symbol.{Symbol}

@@ -2,7 +2,7 @@
 -- begins some page ends.
 use Rattle.std.specs.Prelude.{◌≡◌, ℕ, suc, zero, ◌≤◌, List, [], ◌∷◌, ◌++◌, length, take}
 use Rattle.page_model.specs.declared.place.Place.{Place}
-use Rattle.text_scan.specs.HtmlText.{Word}
+use Rattle.page_tokens.specs.HtmlText.{Word}
 use Rattle.page_reader.specs.declared.symbol.Symbol.{Symbol}
 use Rattle.page_reader.specs.declared.symbol.Symbol.TheVariants.{Doctype, OpenHtml, OpenHead, OpenMeta, OpenTitle, OpenStyle, RawText, OpenBody, OpenBox, CloseHtml, CloseHead, CloseTitle, CloseStyle, CloseBody, CloseBox}
 use Rattle.page_reader.specs.declared.symbol.BoxTag.{BoxTag}

@@ -2,9 +2,9 @@
 use Rattle.std.specs.Prelude.{◌≡◌, ℕ, true, false, List, [], ◌∷◌, Option, Some, None, Result, Ok, Err, is_some, unwrap_or, if◌then◌else◌}
 use Rattle.page_model.specs.declared.element.PageText.{PageText}
 use Rattle.page_model.specs.declared.place.Place.{Place}
-use Rattle.text_scan.specs.HtmlText.{Word}
-use Rattle.text_scan.specs.declared.fault.ScanFault.{ScanFault}
-use Rattle.text_scan.specs.declared.fault.ScanFault.TheVariants.{BadToken, NoMemory as Unscanned}
+use Rattle.page_tokens.specs.HtmlText.{Word}
+use Rattle.text_tokens.specs.declared.fault.ScanFault.{ScanFault}
+use Rattle.text_tokens.specs.declared.fault.ScanFault.TheVariants.{BadToken, NoMemory as Unscanned}
 use Rattle.page_reader.specs.declared.fault.PageFault.{PageFault}
 use Rattle.page_reader.specs.declared.fault.PageFault.TheVariants.{BadText, NoMemory}
 use Rattle.page_reader.specs.PageSymbols.{symbol_of}

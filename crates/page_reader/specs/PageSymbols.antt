@@ -3,9 +3,9 @@ use Rattle.std.specs.Prelude.{ℕ, Bool, true, false, not, ◌&&◌, ◌||◌, L
 use Rattle.std.specs.List.{list_all, list_any}
 use Rattle.std.specs.Str.{bytes_eq, str_eq_ignore_ascii_case}
 use Rattle.page_model.specs.declared.place.Place.{Place}
-use Rattle.text_scan.specs.HtmlTags.{Attribute}
-use Rattle.text_scan.specs.HtmlPieces.{Content, doctype, opening, closing, raw}
-use Rattle.text_scan.specs.HtmlText.{Word}
+use Rattle.page_tokens.specs.HtmlTags.{Attribute}
+use Rattle.page_tokens.specs.HtmlPieces.{Content, doctype, opening, closing, raw}
+use Rattle.page_tokens.specs.HtmlText.{Word}
 use Rattle.page_reader.specs.declared.symbol.Symbol.{Symbol}
 use Rattle.page_reader.specs.declared.symbol.Symbol.TheVariants.{Doctype, OpenHtml, OpenHead, OpenMeta, OpenTitle, OpenStyle, RawText, OpenBody, OpenBox, CloseHtml, CloseHead, CloseTitle, CloseStyle, CloseBody, CloseBox, Other}
 use Rattle.page_reader.specs.declared.symbol.BoxTag.TheVariants.{Div, Span}

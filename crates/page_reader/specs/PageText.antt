@@ -2,8 +2,8 @@
 use Rattle.std.specs.Prelude.{◌≡◌, ℕ, Bool, ◌⊎◌, ◌<◌, ◌≤◌, ◌==◌, ◌||◌, List, length, map, Some, None, position, IsUtf8, nat_le}
 use Rattle.std.specs.Str.{IsValidUpTo}
 use Rattle.page_model.specs.declared.element.PageText.{PageText}
-use Rattle.text_scan.specs.Classes.{is_within}
-use Rattle.text_scan.specs.HtmlText.{Word, IsText, IsStuck}
+use Rattle.text_tokens.specs.Classes.{is_within}
+use Rattle.page_tokens.specs.HtmlText.{Word, IsText, IsStuck}
 use Rattle.page_reader.specs.PageSymbols.{symbol_of}
 use Rattle.page_reader.specs.PageGrammar.{SpellPage, StopAt, start_of}
 use Rattle.page_reader.specs.PageElements.{elements_of}

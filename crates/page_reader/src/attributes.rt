@@ -1,13 +1,13 @@
 // What attributes a tag may have.
 ghost use Rattle.std.specs.Prelude.{◌≡◌, IfOk, map};
 ghost use Rattle.std.specs.List.{list_all};
-ghost use Rattle.text_scan.specs.HtmlShown.{shown_attribute};
+ghost use Rattle.page_tokens.specs.HtmlShown.{shown_attribute};
 ghost use Rattle.page_reader.specs.PageSymbols.{are_box_attributes, are_html_attributes, are_meta_attributes, begins_with, is_box_attribute, is_named, names_viewport};
 
 use crate::distinct::are_distinct;
 use page_model::NoMemory;
 use std::alloc::Global;
-use text_scan::{HtmlAttribute, is_word};
+use page_tokens::{HtmlAttribute, is_word};
 
 /// Whether the attribute has this name, in any case.
 pub(crate) fn is_named(name: &[u8], attribute: &HtmlAttribute<'_>) -> bool

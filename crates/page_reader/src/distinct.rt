@@ -1,7 +1,7 @@
 // Whether a name stands twice in a tag.
 ghost use Rattle.std.specs.Prelude.{◌≡◌, [], IfOk, map, not};
 ghost use Rattle.std.specs.Str.{str_to_ascii_lowercase};
-ghost use Rattle.text_scan.specs.HtmlShown.{shown_attribute};
+ghost use Rattle.page_tokens.specs.HtmlShown.{shown_attribute};
 ghost use Rattle.page_reader.specs.PageNames.{IsAdded, has};
 ghost use Rattle.page_reader.specs.PageSymbols.{are_distinct};
 
@@ -9,7 +9,7 @@ use page_model::NoMemory;
 use std::alloc::Global;
 use std::collections::BTreeSet;
 use std::marker::Model;
-use text_scan::HtmlAttribute;
+use page_tokens::HtmlAttribute;
 
 /// The names that were seen, in lower case.
 #[derive(Drop)]

@@ -2,8 +2,8 @@
 ghost use Rattle.std.specs.Prelude.{◌≡◌, ◌≤◌, ◌-◌, IfOk, find, length, map};
 ghost use Rattle.std.specs.List.{slice_split};
 ghost use Rattle.std.specs.Option.{option_map};
-ghost use Rattle.text_scan.specs.Classes.{is_white};
-ghost use Rattle.text_scan.specs.HtmlShown.{shown_attribute, shown_word};
+ghost use Rattle.text_tokens.specs.Classes.{is_white};
+ghost use Rattle.page_tokens.specs.HtmlShown.{shown_attribute, shown_word};
 ghost use Rattle.page_reader.specs.PageElements.{classes_in, element_of, element_tag, element_with, runs_in, style_in, value_of};
 ghost use Rattle.page_reader.specs.PageSymbols.{is_named, symbol_of};
 
@@ -12,7 +12,7 @@ use crate::stage::NOWHERE;
 use crate::symbol::{BoxTag, Symbol};
 use page_model::{Element, List, Name, NoMemory, Place, Tag};
 use std::alloc::{AllocError, Global};
-use text_scan::{HtmlAttribute, HtmlWord};
+use page_tokens::{HtmlAttribute, HtmlWord};
 
 /// White space: space, tab, line feed, form feed or carriage return.
 fn is_white(byte: u8) -> bool

@@ -1,6 +1,6 @@
 // Whether tokens are a page's, and which.
 ghost use Rattle.std.specs.Prelude.{◌≡◌, ◌≤◌, IfOk, map};
-ghost use Rattle.text_scan.specs.HtmlShown.{shown_word};
+ghost use Rattle.page_tokens.specs.HtmlShown.{shown_word};
 ghost use Rattle.page_reader.specs.PageReading.{IsJudged};
 
 use crate::elements::element_of;
@@ -8,7 +8,7 @@ use crate::stage::{Stage, next_stage};
 use crate::symbols::symbol_of;
 use page_model::{List, NoMemory, PageText};
 use std::alloc::Global;
-use text_scan::HtmlWord;
+use page_tokens::HtmlWord;
 
 /// The page of these tokens, which may have any number of boxes, or where the tokens of a text of this length cease to
 /// be a page's.

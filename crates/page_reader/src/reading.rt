@@ -1,8 +1,8 @@
 // From the bytes of a page to its elements.
 ghost use Rattle.std.specs.Prelude.{◌≡◌, ◌<◌, ◌≤◌, IfErr, IfNone, IfOk, IfSome, IsUtf8, MatchOption, Ok, length, map, position};
 ghost use Rattle.std.specs.Str.{IsValidUpTo};
-ghost use Rattle.text_scan.specs.HtmlShown.{shown_word};
-ghost use Rattle.text_scan.specs.HtmlText.{AreWordsOf};
+ghost use Rattle.page_tokens.specs.HtmlShown.{shown_word};
+ghost use Rattle.page_tokens.specs.HtmlText.{AreWordsOf};
 ghost use Rattle.page_reader.specs.PageReading.{IsJudged, told};
 ghost use Rattle.page_reader.specs.PageText.{IsPageFault, IsRead, SpellsNone, is_control};
 
@@ -10,7 +10,7 @@ use crate::fault::PageFault;
 use crate::judging::judge;
 use page_model::PageText;
 use std::alloc::Global;
-use text_scan::{HtmlWord, ScanFault, scan_words};
+use page_tokens::{HtmlWord, ScanFault, scan_words};
 
 /// The most boxes of a page, and its body.
 const MOST_ELEMENTS: usize = 65;

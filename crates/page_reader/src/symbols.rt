@@ -1,6 +1,6 @@
 // What a token stands for.
 ghost use Rattle.std.specs.Prelude.{◌≡◌, ◌&&◌, IfOk, map, not};
-ghost use Rattle.text_scan.specs.HtmlShown.{shown_attribute, shown_word};
+ghost use Rattle.page_tokens.specs.HtmlShown.{shown_attribute, shown_word};
 ghost use Rattle.page_reader.specs.PageSymbols.{are_box_attributes, closing_symbol, opening_symbol, symbol_of, where_good};
 
 use crate::attributes::{are_box_attributes, are_html_attributes, are_meta_attributes};
@@ -8,7 +8,7 @@ use crate::symbol::{BoxTag, Symbol};
 use crate::tag_name::{TagName, tag_named};
 use page_model::NoMemory;
 use std::alloc::Global;
-use text_scan::{HtmlAttribute, HtmlKind, HtmlWord};
+use page_tokens::{HtmlAttribute, HtmlKind, HtmlWord};
 
 /// The symbol where a test holds.
 fn where_good(good: bool, symbol: Symbol) -> Symbol

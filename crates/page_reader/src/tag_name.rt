@@ -2,7 +2,7 @@
 ghost use Rattle.std.specs.Prelude.{◌≡◌};
 ghost use Rattle.page_reader.specs.PageSymbols.{tag_named};
 
-use text_scan::is_word;
+use page_tokens::is_word;
 
 /// The tags that a page may have.
 #[derive(Clone, Copy, Debug)]

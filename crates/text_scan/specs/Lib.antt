@@ -1,11 +1,6 @@
-pub mod Classes
-pub mod CssGrammar
-pub mod CssReading
-pub mod CssTokens
-pub mod HtmlClasses
-pub mod HtmlPieces
-pub mod HtmlReading
-pub mod HtmlRuns
-pub mod HtmlShown
-pub mod HtmlTags
-pub mod HtmlText
+pub use Rattle.page_tokens.specs.HtmlPieces
+pub use Rattle.page_tokens.specs.HtmlTags
+pub use Rattle.page_tokens.specs.HtmlText
+pub use Rattle.style_tokens.specs.CssGrammar
+pub use Rattle.style_tokens.specs.CssTokens
+pub use Rattle.text_tokens.specs.Classes

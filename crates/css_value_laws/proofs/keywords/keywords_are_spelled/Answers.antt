@@ -1,10 +1,10 @@
-use Rattle.css_values.specs.Keywords.{direction_words, fill_words, play_words, visibility_words}
-use Rattle.css_values.specs.Names.{keyword_of}
-use Rattle.css_value_laws.specs.SpelledWords.{SpellsKeyword}
-use Rattle.css_value_laws.specs.ValueLaws.{NonePast}
-use Rattle.css_value_laws.proofs.Readings.{agrees}
+use Rattle.css_items.specs.ItemWords.{direction_words, fill_words, play_words, visibility_words}
+use Rattle.css_items.specs.Names.{keyword_of}
+use Rattle.css_word_laws.specs.SpelledWords.{SpellsKeyword}
+use Rattle.css_word_laws.specs.ValueLaws.{NonePast}
+use Rattle.css_word_laws.proofs.Readings.{agrees}
 use Rattle.css_value_laws.proofs.TableLemmas.{directions_differ, fills_differ, plays_differ, visibilities_differ}
-use Rattle.css_value_laws.proofs.WordLemmas.{keyword_reads}
+use Rattle.css_value_laws.proofs.NameLemmas.{keyword_reads}
 use Rattle.css_value_laws.proofs.keywords.keywords_are_spelled.Goals as goal
 
 pub returns-clause-directions : goal.returns-clause-directions

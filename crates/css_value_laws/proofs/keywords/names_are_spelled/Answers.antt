@@ -1,8 +1,8 @@
-use Rattle.css_values.specs.Names.{name_of}
-use Rattle.css_value_laws.specs.SpelledWords.{SpellsName}
-use Rattle.css_value_laws.specs.ValueLaws.{NonePast}
-use Rattle.css_value_laws.proofs.Readings.{agrees}
-use Rattle.css_value_laws.proofs.WordLemmas.{name_reads}
+use Rattle.css_items.specs.Names.{name_of}
+use Rattle.css_value_laws.specs.SpelledNames.{SpellsName}
+use Rattle.css_word_laws.specs.ValueLaws.{NonePast}
+use Rattle.css_word_laws.proofs.Readings.{agrees}
+use Rattle.css_value_laws.proofs.NameLemmas.{name_reads}
 use Rattle.css_value_laws.proofs.keywords.names_are_spelled.Goals as goal
 
 pub returns : goal.returns

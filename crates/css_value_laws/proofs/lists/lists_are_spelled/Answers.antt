@@ -1,21 +1,22 @@
 use Rattle.std.proofs.Common.{false, true}
-use Rattle.css_values.specs.Easings.{easing_of}
-use Rattle.css_values.specs.Keywords.{direction_words, fill_words, play_words}
-use Rattle.css_values.specs.Lists.{list_of}
-use Rattle.css_values.specs.Names.{keyword_of, name_of}
-use Rattle.css_values.specs.Quantities.{count_of, duration_of, time_of}
-use Rattle.css_value_laws.specs.SpelledEasings.{PastEasing, SpellsEasing}
+use Rattle.css_easings.specs.Easings.{easing_of}
+use Rattle.css_items.specs.ItemWords.{direction_words, fill_words, play_words}
+use Rattle.css_items.specs.Lists.{list_of}
+use Rattle.css_items.specs.Names.{keyword_of, name_of}
+use Rattle.css_quantities.specs.Quantities.{count_of, duration_of, time_of}
+use Rattle.css_easing_laws.specs.SpelledEasings.{PastEasing, SpellsEasing}
 use Rattle.css_value_laws.specs.SpelledLists.{IsList, IsPastList}
-use Rattle.css_value_laws.specs.SpelledQuantities.{PastCount, PastTime, SpellsCount, SpellsDuration, SpellsTime}
-use Rattle.css_value_laws.specs.SpelledWords.{SpellsKeyword, SpellsName}
-use Rattle.css_value_laws.specs.ValueLaws.{NonePast}
+use Rattle.css_quantity_laws.specs.SpelledQuantities.{PastCount, PastTime, SpellsCount, SpellsDuration, SpellsTime}
+use Rattle.css_word_laws.specs.SpelledWords.{SpellsKeyword}
+use Rattle.css_value_laws.specs.SpelledNames.{SpellsName}
+use Rattle.css_word_laws.specs.ValueLaws.{NonePast}
 use Rattle.css_value_laws.proofs.ClosingLemmas.{count_closes, duration_closes, easing_closes, keyword_closes, name_closes, time_closes}
-use Rattle.css_value_laws.proofs.EasingReadings.{easing_reads}
+use Rattle.css_easing_laws.proofs.EasingReadings.{easing_reads}
 use Rattle.css_value_laws.proofs.ListLemmas.{list_reads}
-use Rattle.css_value_laws.proofs.QuantityLemmas.{count_reads, duration_reads, time_reads}
-use Rattle.css_value_laws.proofs.Readings.{agrees}
+use Rattle.css_quantity_laws.proofs.QuantityLemmas.{count_reads, duration_reads, time_reads}
+use Rattle.css_word_laws.proofs.Readings.{agrees}
 use Rattle.css_value_laws.proofs.TableLemmas.{directions_differ, fills_differ, plays_differ}
-use Rattle.css_value_laws.proofs.WordLemmas.{keyword_reads, name_reads}
+use Rattle.css_value_laws.proofs.NameLemmas.{keyword_reads, name_reads}
 use Rattle.css_value_laws.proofs.lists.lists_are_spelled.Goals as goal
 
 pub returns-clause-names : goal.returns-clause-names

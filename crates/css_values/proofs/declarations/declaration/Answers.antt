@@ -1,6 +1,6 @@
 use Rattle.std.proofs.Common.{All}
 use Rattle.css_values.specs.ValidValues.{IsLonghand}
-use Rattle.css_values.specs.Words.{words}
+use Rattle.css_words.specs.Words.{words}
 use Rattle.css_values.proofs.ValidLonghands.{on_given, declaration_is}
 use Rattle.css_values.proofs.declarations.declaration.Goals as goal
 

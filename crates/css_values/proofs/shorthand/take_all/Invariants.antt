@@ -1,7 +1,7 @@
 use Rattle.std.proofs.Common.{◌≡◌, false, length}
 use Rattle.css_values.specs.ShorthandGrammar.{free, groups, take_all}
 use Rattle.css_values.specs.ShorthandViews.{held}
-use Rattle.css_values.specs.Words.{words}
+use Rattle.css_words.specs.Words.{words}
 use Rattle.css_values.proofs.shorthand.take_all.Given as goal
 
 abbrev pub invariant-words : goal.invariant-words

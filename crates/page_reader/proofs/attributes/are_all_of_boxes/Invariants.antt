@@ -1,6 +1,6 @@
 use Rattle.std.proofs.Common.{◌≡◌, map, drop}
 use Rattle.std.specs.List.{list_all}
-use Rattle.text_scan.specs.HtmlShown.{shown_attribute}
+use Rattle.page_tokens.specs.HtmlShown.{shown_attribute}
 use Rattle.page_reader.specs.PageSymbols.{is_box_attribute}
 use Rattle.page_reader.proofs.attributes.are_all_of_boxes.Given as goal
 

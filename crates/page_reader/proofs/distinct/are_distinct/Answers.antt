@@ -1,5 +1,5 @@
 use Rattle.std.proofs.Common.{◌≡◌, ◌<◌, ◌≤◌, ◌-◌, suc, length, map, drop, subst, arith}
-use Rattle.text_scan.specs.HtmlShown.{shown_attribute}
+use Rattle.page_tokens.specs.HtmlShown.{shown_attribute}
 use Rattle.page_reader.proofs.NameLemmas.{Seen, stands_twice}
 use Rattle.page_reader.proofs.distinct.are_distinct.Goals as goal
 

@@ -1,5 +1,5 @@
 use Rattle.std.proofs.Common.{◌≡◌, ◌≤◌, true, length, map, drop}
-use Rattle.text_scan.specs.HtmlShown.{shown_attribute}
+use Rattle.page_tokens.specs.HtmlShown.{shown_attribute}
 use Rattle.page_reader.specs.PageSymbols.{are_distinct}
 use Rattle.page_reader.proofs.NameLemmas.{Seen}
 use Rattle.page_reader.proofs.distinct.are_distinct.Given as goal

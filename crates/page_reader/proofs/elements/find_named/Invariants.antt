@@ -1,6 +1,6 @@
 use Rattle.std.proofs.Common.{◌≡◌, map, drop}
 use Rattle.std.specs.Prelude.{find}
-use Rattle.text_scan.specs.HtmlShown.{shown_attribute}
+use Rattle.page_tokens.specs.HtmlShown.{shown_attribute}
 use Rattle.page_reader.specs.PageSymbols.{is_named}
 use Rattle.page_reader.proofs.elements.find_named.Given as goal
 

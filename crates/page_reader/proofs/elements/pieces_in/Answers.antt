@@ -1,7 +1,7 @@
 use Rattle.std.proofs.Common.{rules, tests}
 use Rattle.std.proofs.lemmas.Iterator.Consumers.{map_from_collect}
 use Rattle.std.proofs.lemmas.Iterator.Splits.{YieldsList-from_slice_split}
-use Rattle.text_scan.specs.Classes.{is_white}
+use Rattle.text_tokens.specs.Classes.{is_white}
 use Rattle.page_reader.proofs.elements.pieces_in.Goals as goal
 
 -- the pieces that `split` gives

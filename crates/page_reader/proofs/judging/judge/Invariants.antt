@@ -1,5 +1,5 @@
 use Rattle.std.proofs.Common.{◌≡◌, ◌++◌, map, drop}
-use Rattle.text_scan.specs.HtmlShown.{shown_word}
+use Rattle.page_tokens.specs.HtmlShown.{shown_word}
 use Rattle.page_reader.specs.PageElements.{elements_of}
 use Rattle.page_reader.specs.PageReading.{judged}
 use Rattle.page_reader.specs.declared.stage.Stage.TheVariants.{AtDoctype}

@@ -1,5 +1,5 @@
 use Rattle.std.proofs.Common.{map}
-use Rattle.text_scan.specs.HtmlShown.{shown_word}
+use Rattle.page_tokens.specs.HtmlShown.{shown_word}
 use Rattle.page_reader.proofs.PageLemmas.{has_no_page}
 use Rattle.page_reader.proofs.reading.read_words.Goals as goal
 

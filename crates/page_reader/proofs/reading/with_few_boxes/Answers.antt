@@ -1,5 +1,5 @@
 use Rattle.std.proofs.Common.{map, arith}
-use Rattle.text_scan.specs.HtmlShown.{shown_word}
+use Rattle.page_tokens.specs.HtmlShown.{shown_word}
 use Rattle.page_reader.proofs.PageLemmas.{is_few}
 use Rattle.page_reader.proofs.reading.with_few_boxes.Goals as goal
 

@@ -1,0 +1,15 @@
+-- The names of colours.
+use Rattle.std.specs.Prelude.{ℕ, List, [], ◌∷◌, codes}
+use Rattle.page_model.specs.declared.colour.Rgb.{Rgb}
+
+abbrev pub colour : ℕ → ℕ → ℕ → Rgb
+colour red green blue = record { r = red; g = green; b = blue }
+
+-- the sixteen names of colours that HTML 4 has, and orange
+unfoldable pub colour_names : List (List ℕ × Rgb)
+colour_names =
+    (codes "aqua", colour 0 255 255) ∷ (codes "black", colour 0 0 0) ∷ (codes "blue", colour 0 0 255) ∷ (codes "fuchsia", colour 255 0 255)
+    ∷ (codes "gray", colour 128 128 128) ∷ (codes "green", colour 0 128 0) ∷ (codes "lime", colour 0 255 0) ∷ (codes "maroon", colour 128 0 0)
+    ∷ (codes "navy", colour 0 0 128) ∷ (codes "olive", colour 128 128 0) ∷ (codes "orange", colour 255 165 0) ∷ (codes "purple", colour 128 0 128)
+    ∷ (codes "red", colour 255 0 0) ∷ (codes "silver", colour 192 192 192) ∷ (codes "teal", colour 0 128 128) ∷ (codes "white", colour 255 255 255)
+    ∷ (codes "yellow", colour 255 255 0) ∷ []

@@ -1,0 +1,2 @@
+pub mod ColourNames
+pub mod Colours

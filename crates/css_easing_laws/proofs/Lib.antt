@@ -1,0 +1,3 @@
+pub mod EasingLemmas
+pub mod EasingReadings
+pub mod TableLemmas

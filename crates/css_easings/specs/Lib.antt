@@ -1,0 +1,3 @@
+pub mod EasingViews
+pub mod EasingWords
+pub mod Easings

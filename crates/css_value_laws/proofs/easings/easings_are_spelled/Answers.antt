@@ -1,8 +1,0 @@
-use Rattle.css_values.specs.Easings.{easing_of}
-use Rattle.css_value_laws.specs.SpelledEasings.{PastEasing, SpellsEasing}
-use Rattle.css_value_laws.proofs.EasingReadings.{easing_reads}
-use Rattle.css_value_laws.proofs.Readings.{agrees}
-use Rattle.css_value_laws.proofs.easings.easings_are_spelled.Goals as goal
-
-pub returns : goal.returns
-returns c = agrees easing_of SpellsEasing PastEasing easing_reads

@@ -1,5 +1,0 @@
-use Rattle.css_value_laws.proofs.QuantityLemmas.{nothing_from, nothing_to}
-use Rattle.css_value_laws.proofs.quantities.nothing_is_spelled.Goals as goal
-
-pub returns : goal.returns
-returns c = λ words. (nothing_to words, nothing_from words)

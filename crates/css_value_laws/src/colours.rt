@@ -1,9 +1,0 @@
-// Colours.
-ghost use Rattle.css_values.specs.Colours.{colour_of};
-ghost use Rattle.css_value_laws.specs.SpelledColours.{SpellsColour};
-ghost use Rattle.css_value_laws.specs.ValueLaws.{Agrees, NonePast};
-
-/// Colours are read as they are spelled.
-pub fn colours_are_spelled()
-    ensures { Agrees colour_of SpellsColour NonePast }
-{}

@@ -1,9 +1,0 @@
-use Rattle.std.proofs.Common.{◌≡◌, ◌++◌, map, length}
-use Rattle.css_values.specs.declared.shorthand.Shorthand.{Shorthand}
-use Rattle.css_values.proofs.columns.counts.Given as goal
-
-abbrev pub invariant-items : goal.invariant-items
-invariant-items l = l.list ++ map (λ (i : Shorthand). i.count) l.rest ≡ map (λ (i : Shorthand). i.count) l.items
-
-abbrev pub decreases-items : goal.decreases-items
-decreases-items l = length l.rest

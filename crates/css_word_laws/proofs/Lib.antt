@@ -1,0 +1,6 @@
+pub mod FrontLemmas
+pub mod KeywordLemmas
+pub mod NumberLemmas
+pub mod Readings
+pub mod SizeLemmas
+pub mod WordLemmas

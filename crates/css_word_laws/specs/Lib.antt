@@ -1,0 +1,3 @@
+pub mod SpelledNumbers
+pub mod SpelledWords
+pub mod ValueLaws

@@ -1,0 +1,4 @@
+pub mod DigitLemmas
+pub mod GivenLemmas
+pub mod SignLemmas
+pub mod TableLemmas

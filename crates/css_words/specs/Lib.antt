@@ -1,0 +1,4 @@
+pub mod Keywords
+pub mod NumeralViews
+pub mod Numerals
+pub mod Words

@@ -1,0 +1,4 @@
+pub mod HtmlPieceLemmas
+pub mod HtmlRunLemmas
+pub mod HtmlTagLemmas
+pub mod HtmlTextLemmas

@@ -1,0 +1,10 @@
+use Rattle.std.proofs.Common.{◌≡◌, length}
+use Rattle.text_tokens.specs.Classes.{is_digit}
+use Rattle.style_tokens.specs.CssReading.{skip}
+use Rattle.style_tokens.proofs.css_reading.skip_digits.Given as goal
+
+abbrev pub invariant-digits : goal.invariant-digits
+invariant-digits l = skip is_digit l.rest ≡ skip is_digit l.bytes
+
+abbrev pub decreases-digits : goal.decreases-digits
+decreases-digits l = length l.rest

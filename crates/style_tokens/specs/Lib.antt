@@ -1,0 +1,3 @@
+pub mod CssGrammar
+pub mod CssReading
+pub mod CssTokens

@@ -1,9 +1,0 @@
-use Rattle.std.proofs.Common.{length}
-use Rattle.text_scan.proofs.CssScan.{Continues}
-use Rattle.text_scan.proofs.css.tokens_of.Given as goal
-
-abbrev pub invariant-scanning : goal.invariant-scanning
-invariant-scanning l = Continues l.end l.bytes l.rest l.tokens
-
-abbrev pub decreases-scanning : goal.decreases-scanning
-decreases-scanning l = length l.rest

@@ -1,9 +1,0 @@
-use Rattle.std.proofs.Common.{◌≡◌, length}
-use Rattle.text_scan.specs.CssReading.{after_close}
-use Rattle.text_scan.proofs.css_reading.after_close.Given as goal
-
-abbrev pub invariant-closing : goal.invariant-closing
-invariant-closing l = after_close l.rest ≡ after_close l.bytes
-
-abbrev pub decreases-closing : goal.decreases-closing
-decreases-closing l = length l.rest
