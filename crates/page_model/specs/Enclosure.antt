@@ -17,7 +17,7 @@ use Rattle.page_model.specs.declared.scene.Scene.{Scene}
 use Rattle.page_model.specs.Curve.{Reaches, curve_height}
 use Rattle.page_model.specs.Fraction.{Fraction, zero_of_one}
 use Rattle.page_model.specs.LayerAt.{Course, still, moving, course_of, red_of, green_of, blue_of, cover_of, alpha_of, length_of, visible_of}
-use Rattle.page_model.specs.Slot.{Slot, Shade, cover, alpha, position, extent, IsGreatestIn, IsGreatestLevel, twice_the_way, twice_to_cover, fading, gain, due}
+use Rattle.page_model.specs.Slot.{Slot, Shade, cover, alpha, position, extent, IsGreatestIn, IsGreatestLevel, own_level, twice_the_way, twice_to_cover, fading, gain, due}
 
 pub data Kind : Type 0 where
   exact : Kind
@@ -138,7 +138,7 @@ IsLooseOn kind slot part (moving interval) loose =
 
 -- the loose value that a channel takes on a course
 abbrev pub IsLooseChannelOn : Kind → (Value → Shade) → Course → Loose → Type 0
-IsLooseChannelOn kind part (still x) loose = loose ≡ only (pos (part x).level)
+IsLooseChannelOn kind part (still x) loose = loose ≡ only (own_level (part x))
 IsLooseChannelOn kind part (moving interval) loose =
     IsLooseChannel kind interval.easing interval.distance (part interval.from) (part interval.to) loose
 

@@ -19,7 +19,7 @@ use Rattle.page_model.specs.Curve.{eased}
 use Rattle.page_model.specs.Fraction.{zero_of_one}
 use Rattle.page_model.specs.Keyframes.{Interval, interval_of, last_of}
 use Rattle.page_model.specs.Progress.{above_zero, progress_of}
-use Rattle.page_model.specs.Slot.{Slot, Shade, cover, alpha, position, extent, IsSlotValue, IsChannelValue, IsShownValue, slot_value, channel_value, shown_value}
+use Rattle.page_model.specs.Slot.{Slot, Shade, cover, alpha, position, extent, IsSlotValue, IsChannelValue, IsShownValue, own_level, slot_value, channel_value, shown_value}
 
 -- the colour that stands for none: no layer without a colour is painted
 abbrev pub no_colour : Rgba
@@ -114,7 +114,7 @@ IsValueOn slot part (moving interval) v =
 
 -- the value that a channel takes on a course: without animation it is the colour's own, also where that is transparent
 abbrev pub IsChannelOn : (Value → Shade) → Course → ℤ → Type 0
-IsChannelOn part (still x) v = v ≡ pos (part x).level
+IsChannelOn part (still x) v = v ≡ own_level (part x)
 IsChannelOn part (moving interval) v =
     IsChannelValue interval.easing interval.distance (part interval.from) (part interval.to) v
 
@@ -163,7 +163,7 @@ value_on slot part (moving interval) =
     slot_value slot (part interval.from) (part interval.to) (eased interval.easing interval.distance)
 
 abbrev pub channel_on : (Value → Shade) → Course → ℤ
-channel_on part (still x) = pos (part x).level
+channel_on part (still x) = own_level (part x)
 channel_on part (moving interval) =
     channel_value (part interval.from) (part interval.to) (eased interval.easing interval.distance)
 

@@ -2,7 +2,7 @@
 -- an eased value E, the greatest whole v for which (to - from) E reaches unit (v - 1/2) - from. A channel goes by the
 -- premultiplied colours: CSS Color Level 4, "Interpolating with Alpha". The rounding is the project's own; interpolation is that
 -- of CSS Animations Level 1 and its property types.
-use Rattle.std.specs.Prelude.{ℕ, ℤ, pos, negsuc, neg_ℤ, Bool, true, false, ◌≡◌, ◌+◌, ◌*◌, ◌+ℤ◌, ◌-ℤ◌, ◌*ℤ◌, ◌≤ℤ◌, ◌<ℤ◌, int_le, nat_lt, if◌then◌else◌}
+use Rattle.std.specs.Prelude.{ℕ, ℤ, pos, negsuc, neg_ℤ, Bool, true, false, ◌≡◌, ◌+◌, ◌*◌, ◌+ℤ◌, ◌-ℤ◌, ◌*ℤ◌, ◌≤ℤ◌, ◌<ℤ◌, min, int_le, nat_lt, if◌then◌else◌}
 use Rattle.std.specs.Int.{int_min, int_max, int_div_euclid}
 use Rattle.page_model.specs.declared.easing.Easing.{Easing}
 use Rattle.page_model.specs.Curve.{Reaches}
@@ -69,6 +69,10 @@ slot_value slot from to x = held slot (rounded slot from to x)
 pub record Shade : Type 0 where
   pub level : ℕ
   pub alpha : ℕ
+
+-- the channel itself, held in its range
+abbrev pub own_level : Shade → ℤ
+own_level shade = pos (min shade.level 255)
 
 -- a channel times its alpha
 abbrev pub premultiplied : Shade → ℕ
