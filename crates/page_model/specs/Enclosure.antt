@@ -97,15 +97,15 @@ pub record AreLevels (kind : Kind) (easing : Easing) (at : Fraction) (from to : 
   pub greatest : IsGreatestLevel (λ v. SomeReach kind easing at (gain from to v) (due from v)) loose.hi
 
 -- one value as a loose one, and any channel
-abbrev pub only : ℤ → Loose
-only v = record { lo = v; hi = v }
+abbrev pub one_value : ℤ → Loose
+one_value v = record { lo = v; hi = v }
 
 abbrev pub any_level : Loose
 any_level = record { lo = pos 0; hi = pos 255 }
 
 -- the loose value of a channel on the way from one colour to another
 pub record IsLooseChannel (kind : Kind) (easing : Easing) (at : Fraction) (from to : Shade) (loose : Loose) : Type 0 where
-  pub gone : AllGone kind easing at from to → loose ≡ only (pos 0)
+  pub gone : AllGone kind easing at from to → loose ≡ one_value (pos 0)
   pub mixed : SomeGone kind easing at from to → (AllGone kind easing at from to → ⊥) → loose ≡ any_level
   pub left : (SomeGone kind easing at from to → ⊥) → AreLevels kind easing at from to loose
 
@@ -138,7 +138,7 @@ IsLooseOn kind slot part (moving interval) loose =
 
 -- the loose value that a channel takes on a course
 abbrev pub IsLooseChannelOn : Kind → (Value → Shade) → Course → Loose → Type 0
-IsLooseChannelOn kind part (still x) loose = loose ≡ only (own_level (part x))
+IsLooseChannelOn kind part (still x) loose = loose ≡ one_value (own_level (part x))
 IsLooseChannelOn kind part (moving interval) loose =
     IsLooseChannel kind interval.easing interval.distance (part interval.from) (part interval.to) loose
 
