@@ -97,6 +97,16 @@ level-unique Holds v w first second =
     by_lt_z v w (λ less. absurd (levels-apart Holds v w first second less))
     (λ least. by_lt_z w v (λ less. absurd (levels-apart Holds w v second first less)) (λ other. omega (arith, ints)))
 
+-- the greatest level of a fact isn't above that of one which it implies
+pub level-mono : (P Q : ℤ → Type 0) (v w : ℤ) → ((u : ℤ) → P u → Q u) → IsGreatestLevel P v → IsGreatestLevel Q w → v ≤ℤ w
+level-mono P Q v w implied first second =
+    by_lt_z w v (λ above. absurd (second.greatest v above first.at_most
+    (implied v (first.reached (some w v second.at_least above)))))
+    (λ below. below)
+  where
+    some : (w v : ℤ) → pos 0 ≤ℤ w → w <ℤ v → pos 0 <ℤ v
+    some w v low above = omega (arith, ints)
+
 -- so a channel has one value: where the alpha is gone both are 0
 channels-apart :
     (easing : Easing) (at : Fraction) (from to : Shade) (v w : ℤ) → IsChannelValue easing at from to v

@@ -15,7 +15,7 @@ use Rattle.page_model.specs.Slot.{IsChannelValue, IsGone, IsGreatestIn, IsGreate
 use Rattle.wide_laws.specs.LooseLaws.{ExactKindIsExact, Holds, WideHoldsExact, sure_of}
 use Rattle.wide_laws.proofs.LooseLemmas.{AllLevel, AllRound, SomeLevel, SomeRound, SomeRound-antitone}
 use Rattle.state_laws.proofs.RunLemmas.{channel-at_least, channel-at_most}
-use Rattle.state_laws.proofs.UniqueLemmas.{IsAntitone, RoundsTo-antitone}
+use Rattle.state_laws.proofs.UniqueLemmas.{IsAntitone, RoundsTo-antitone, level-mono}
 
 -- by the exact kind all and some values are the one
 exact-all : (easing : Easing) (at : Fraction) (a b : ℤ) → AllReach exact easing at a b ↔ Reaches easing at a b
@@ -245,16 +245,6 @@ wide-loose_on :
     → IsLooseOn wide slot part course loose → Holds loose v
 wide-loose_on slot part (still x) v loose good known = wide-loose slot Linear zero_of_one (part x) (part x) v loose good known
 wide-loose_on slot part (moving i) v loose good known = wide-loose slot i.easing i.distance (part i.from) (part i.to) v loose good known
-
--- the greatest level of a fact isn't above that of one which it implies
-pub level-mono : (P Q : ℤ → Type 0) (v w : ℤ) → ((u : ℤ) → P u → Q u) → IsGreatestLevel P v → IsGreatestLevel Q w → v ≤ℤ w
-level-mono P Q v w implied first second =
-    by_lt_z w v (λ above. absurd (second.greatest v above first.at_most
-    (implied v (first.reached (some w v second.at_least above)))))
-    (λ below. below)
-  where
-    some : (w v : ℤ) → pos 0 ≤ℤ w → w <ℤ v → pos 0 <ℤ v
-    some w v low above = omega (arith, ints)
 
 -- it is impossible that a loose channel doesn't hold the exact one, and so it does
 wide-channel :
