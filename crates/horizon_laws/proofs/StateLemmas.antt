@@ -13,9 +13,9 @@ use Rattle.page_model.specs.declared.scene.Layer.{Layer}
 use Rattle.page_model.specs.declared.scene.Scene.{Scene}
 use Rattle.page_model.specs.Horizon.{IsHorizon, all_animations, animations_of}
 use Rattle.page_model.specs.Keyframes.{Interval, interval_of, last_of}
-use Rattle.page_model.specs.LayerAt.{still, State, IsShownWith, IsStateAt, IsValueOn, alpha_of, blue_of, course_by, course_of, declared, green_of, interval_at, is_held, length_of, red_of}
+use Rattle.page_model.specs.LayerAt.{still, State, IsChannelOn, IsShownWith, IsStateAt, IsValueOn, alpha_of, blue_of, course_by, course_of, cover_of, declared, green_of, interval_at, is_held, length_of, red_of}
 use Rattle.page_model.specs.Progress.{progress_of}
-use Rattle.page_model.specs.Slot.{alpha, channel, extent, position}
+use Rattle.page_model.specs.Slot.{alpha, cover, extent, position}
 use Rattle.horizon_laws.proofs.RepeatLemmas.{repeats-together}
 
 -- two parts of a list
@@ -66,9 +66,10 @@ state-carries :
     → ((prop : Prop) → course_of scene setup frame layer prop ≡ course_of scene setup other layer prop)
     → IsStateAt scene setup frame layer state → IsStateAt scene setup other layer state
 state-carries scene setup frame other layer state same is = record {
-  is_red = subst (λ x. IsValueOn channel red_of x (pos state.red)) (same Background) is.is_red;
-  is_green = subst (λ x. IsValueOn channel green_of x (pos state.green)) (same Background) is.is_green;
-  is_blue = subst (λ x. IsValueOn channel blue_of x (pos state.blue)) (same Background) is.is_blue;
+  is_red = subst (λ x. IsChannelOn red_of x (pos state.red)) (same Background) is.is_red;
+  is_green = subst (λ x. IsChannelOn green_of x (pos state.green)) (same Background) is.is_green;
+  is_blue = subst (λ x. IsChannelOn blue_of x (pos state.blue)) (same Background) is.is_blue;
+  is_cover = subst (λ x. IsValueOn cover cover_of x (pos state.cover)) (same Background) is.is_cover;
   is_alpha = subst (λ x. IsValueOn alpha alpha_of x (pos state.alpha)) (same Opacity) is.is_alpha;
   is_shown = subst (λ x. IsShownWith layer.colour x state.shown) (same Visibility) is.is_shown;
   is_left = subst (λ x. IsValueOn position length_of x state.left) (same Left) is.is_left;
