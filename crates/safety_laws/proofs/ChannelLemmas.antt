@@ -1,5 +1,5 @@
 -- A channel between two colours, where the easing is no curve: the premultiplied channel over the alpha, by whole numbers alone.
-use Rattle.std.proofs.Common.{◌≡◌, ◌↔◌, ℕ, zero, suc, ◌+◌, ◌*◌, ◌<◌, ◌≤◌, ℤ, pos, negsuc, neg_ℤ, ◌+ℤ◌, ◌-ℤ◌, ◌*ℤ◌, ◌≤ℤ◌, ◌<ℤ◌, arith, refl, sym, subst}
+use Rattle.std.proofs.Common.{◌≡◌, ◌↔◌, ℕ, zero, suc, ◌+◌, ◌*◌, ◌<◌, ◌≤◌, ℤ, pos, negsuc, neg_ℤ, ◌+ℤ◌, ◌-ℤ◌, ◌*ℤ◌, ◌≤ℤ◌, ◌<ℤ◌, int_le, false, arith, refl, sym, subst}
 use Rattle.std.specs.Int.{int_div_euclid}
 use Rattle.std.proofs.lemmas.Int.{ints, clamps, by_lt_z}
 use Rattle.page_model.specs.declared.easing.Easing.{Easing}
@@ -78,20 +78,6 @@ level-between x from to n =
     gain-is : (p q a b k : ℕ) → (pos (2 * q) -ℤ pos k *ℤ pos b) -ℤ (pos (2 * p) -ℤ pos k *ℤ pos a) ≡ pos (2 * q + k * a) -ℤ pos (2 * p + k * b)
     gain-is p q a b k = omega (arith, ints)
 
-    there :
-        (p q a b n num den : ℕ)
-        → (pos ((2 * n + 1) * a * den) -ℤ pos (2 * p * den)) ≤ℤ (pos ((2 * q + (2 * n + 1) * a) * num) -ℤ pos ((2 * p + (2 * n + 1) * b) * num))
-        → (pos (suc n) *ℤ (pos 2 *ℤ (pos (a * den + b * num) -ℤ pos (a * num))))
-        ≤ℤ (pos 2 *ℤ (pos (p * den + q * num) -ℤ pos (p * num)) +ℤ (pos (a * den + b * num) -ℤ pos (a * num)))
-    there p q a b n num den h = by_parts n (a * den + b * num) (a * num) (p * den + q * num) (p * num) (omega (arith, ints))
-
-    back :
-        (p q a b n num den : ℕ)
-        → (pos (suc n) *ℤ (pos 2 *ℤ (pos (a * den + b * num) -ℤ pos (a * num))))
-        ≤ℤ (pos 2 *ℤ (pos (p * den + q * num) -ℤ pos (p * num)) +ℤ (pos (a * den + b * num) -ℤ pos (a * num)))
-        → (pos ((2 * n + 1) * a * den) -ℤ pos (2 * p * den)) ≤ℤ (pos ((2 * q + (2 * n + 1) * a) * num) -ℤ pos ((2 * p + (2 * n + 1) * b) * num))
-    back p q a b n num den h = let k = in_parts n (a * den + b * num) (a * num) (p * den + q * num) (p * num) h in omega (arith, ints)
-
     twice-times : (n c d : ℕ) → pos (suc n) *ℤ (pos 2 *ℤ (pos c -ℤ pos d)) ≡ pos (2 * (n + 1) * c) -ℤ pos (2 * (n + 1) * d)
     twice-times n c d =
         let e = apart-times (2 * c) (2 * d) (n + 1) in
@@ -110,6 +96,20 @@ level-between x from to n =
         (n c d e f : ℕ) → (pos (suc n) *ℤ (pos 2 *ℤ (pos c -ℤ pos d))) ≤ℤ (pos 2 *ℤ (pos e -ℤ pos f) +ℤ (pos c -ℤ pos d))
         → (2 * (n + 1) * c + 2 * f + d) ≤ (2 * e + c + 2 * (n + 1) * d)
     in_parts n c d e f h = let k = rw (twice-times n c d) at h in omega (arith, ints)
+
+    there :
+        (p q a b n num den : ℕ)
+        → (pos ((2 * n + 1) * a * den) -ℤ pos (2 * p * den)) ≤ℤ (pos ((2 * q + (2 * n + 1) * a) * num) -ℤ pos ((2 * p + (2 * n + 1) * b) * num))
+        → (pos (suc n) *ℤ (pos 2 *ℤ (pos (a * den + b * num) -ℤ pos (a * num))))
+        ≤ℤ (pos 2 *ℤ (pos (p * den + q * num) -ℤ pos (p * num)) +ℤ (pos (a * den + b * num) -ℤ pos (a * num)))
+    there p q a b n num den h = by_parts n (a * den + b * num) (a * num) (p * den + q * num) (p * num) (omega (arith, ints))
+
+    back :
+        (p q a b n num den : ℕ)
+        → (pos (suc n) *ℤ (pos 2 *ℤ (pos (a * den + b * num) -ℤ pos (a * num))))
+        ≤ℤ (pos 2 *ℤ (pos (p * den + q * num) -ℤ pos (p * num)) +ℤ (pos (a * den + b * num) -ℤ pos (a * num)))
+        → (pos ((2 * n + 1) * a * den) -ℤ pos (2 * p * den)) ≤ℤ (pos ((2 * q + (2 * n + 1) * a) * num) -ℤ pos ((2 * p + (2 * n + 1) * b) * num))
+    back p q a b n num den h = let k = in_parts n (a * den + b * num) (a * num) (p * den + q * num) (p * num) h in omega (arith, ints)
 
 -- of levels that hold up to a number the greatest is that number, held in the range
 held-level : (Holds : ℤ → Type 0) (r : ℤ) → ((n : ℕ) → Holds (pos (suc n)) ↔ (pos (suc n) ≤ℤ r)) → IsGreatestLevel Holds (held_level r)
@@ -148,12 +148,16 @@ over-alpha :
     → ((n : ℕ) → Holds (pos (suc n)) ↔ ((pos (suc n) *ℤ (pos 2 *ℤ alpha)) ≤ℤ (pos 2 *ℤ product +ℤ alpha)))
     → IsOverAlpha Gone Holds (over_alpha product alpha)
 over-alpha Gone Holds product (pos zero) none same = record { gone = λ gone. refl; left = λ left. absurd (left (none.1 (omega (arith, ints)))) }
-over-alpha Gone Holds product (pos (suc a)) none same = record {
-  gone = λ gone. absurd (let h = none.0 gone in omega (arith, ints));
-  left = λ left. held-level Holds (int_div_euclid (pos 2 *ℤ product +ℤ pos (suc a)) (pos (2 * suc a))) (λ n.
-      let quotient = div-greatest (pos 2 *ℤ product +ℤ pos (suc a)) (pos (suc n)) (2 * suc a) (omega arith) in
-      let here = same n in (λ holds. quotient.0 (here.0 holds), λ below. here.1 (quotient.1 below)));
-}
+over-alpha Gone Holds product (pos (suc a)) none same =
+    rw (above-none a) (record {
+      gone = λ gone. absurd (let h = none.0 gone in omega (arith, ints));
+      left = λ left. held-level Holds (int_div_euclid (pos 2 *ℤ product +ℤ pos (suc a)) (pos (2 * suc a))) (λ n.
+          let quotient = div-greatest (pos 2 *ℤ product +ℤ pos (suc a)) (pos (suc n)) (2 * suc a) (omega arith) in
+          let here = same n in (λ holds. quotient.0 (here.0 holds), λ below. here.1 (quotient.1 below)));
+    })
+  where
+    above-none : (a : ℕ) → int_le (pos (suc a)) (pos 0) ≡ false
+    above-none a = let e : false ≡ int_le (pos (suc a)) (pos 0) = omega (arith, ints) in sym e
 over-alpha Gone Holds product (negsuc a) none same = record { gone = λ gone. refl; left = λ left. absurd (left (none.1 (omega (arith, ints)))) }
 
 -- by a fraction, and so by `linear` and `steps`
