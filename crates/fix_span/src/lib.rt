@@ -14,6 +14,7 @@
 mod encloses;
 mod frac;
 mod loose;
+mod quotient;
 mod rounding;
 #[cfg(test)]
 mod tests;
