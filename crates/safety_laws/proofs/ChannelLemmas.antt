@@ -12,7 +12,7 @@ use Rattle.safety_laws.proofs.RoundingLemmas.{div-greatest}
 use Rattle.state_laws.proofs.UniqueLemmas.{channel-unique}
 
 -- a difference times a number
-apart-times : (m n c : ℕ) → (pos m -ℤ pos n) *ℤ pos c ≡ pos (m * c) -ℤ pos (n * c)
+pub apart-times : (m n c : ℕ) → (pos m -ℤ pos n) *ℤ pos c ≡ pos (m * c) -ℤ pos (n * c)
 apart-times m n c =
     let d : ℤ = pos m -ℤ pos n in
     product d m n c (omega (arith, ints))
