@@ -1,3 +1,4 @@
+pub mod ChannelLemmas
 pub mod CurveEndLemmas
 pub mod CurveHeights
 pub mod CurveLemmas

@@ -1,10 +1,10 @@
--- How loose slots nest: the exact value of a slot lies between the ends of each kind, and those of the own kind between those of the
--- wide one.
+-- How loose slots and channels nest: the exact value lies between the ends of each kind, and those of the own kind between those of
+-- the wide one.
 use Rattle.std.specs.Prelude.{ℤ, ◌≤ℤ◌, Bool, true, false}
 use Rattle.page_model.specs.declared.easing.Easing.{Easing}
-use Rattle.page_model.specs.Enclosure.{Kind, own, wide, Loose, IsLoose, Sureness, surely, surely_not, maybe, IsShownSurely}
+use Rattle.page_model.specs.Enclosure.{Kind, own, wide, Loose, IsLoose, IsLooseChannel, Sureness, surely, surely_not, maybe, IsShownSurely}
 use Rattle.page_model.specs.Fraction.{Fraction}
-use Rattle.page_model.specs.Slot.{Slot, IsSlotValue, IsShownValue}
+use Rattle.page_model.specs.Slot.{Slot, Shade, IsSlotValue, IsChannelValue, IsShownValue}
 use Rattle.page_model.specs.ValidScene.{IsEasing}
 
 -- a value lies between the ends, and the ends of one between those of another
@@ -23,6 +23,15 @@ pub record LooseSlotsNest : Type 0 where
       → IsLoose wide slot easing at from to outer → IsLoose own slot easing at from to inner → LooseWithin outer inner
   pub in_order : (kind : Kind) (slot : Slot) (easing : Easing) → IsEasing easing → (at : Fraction) (from to : ℤ) (loose : Loose)
       → IsLoose kind slot easing at from to loose → loose.lo ≤ℤ loose.hi
+
+-- channels, also where the alpha is gone for some values of a set
+pub record LooseChannelsNest : Type 0 where
+  pub exact_value : (kind : Kind) (easing : Easing) → IsEasing easing → (at : Fraction) (from to : Shade) (loose : Loose) (v : ℤ)
+      → IsLooseChannel kind easing at from to loose → IsChannelValue easing at from to v → IsWithin loose v
+  pub own_in_wide : (easing : Easing) → IsEasing easing → (at : Fraction) (from to : Shade) (outer inner : Loose)
+      → IsLooseChannel wide easing at from to outer → IsLooseChannel own easing at from to inner → LooseWithin outer inner
+  pub in_order : (kind : Kind) (easing : Easing) → IsEasing easing → (at : Fraction) (from to : Shade) (loose : Loose)
+      → IsLooseChannel kind easing at from to loose → loose.lo ≤ℤ loose.hi
 
 -- what is so, is so as surely as is said
 abbrev pub Agrees : Sureness → Bool → Type 0

@@ -20,4 +20,4 @@ pub use curve::{
 };
 pub use enclosure::{intervals_nest, reaches_nest};
 pub use ends::{counts_by_number, curve_ends};
-pub use slot::{loose_shown_nests, loose_slots_nest};
+pub use slot::{loose_channels_nest, loose_shown_nests, loose_slots_nest};

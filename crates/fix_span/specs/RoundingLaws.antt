@@ -18,12 +18,12 @@ floor_above (negsuc a) d some = omega (arith, ints, div-add-mod' a d)
 twice_times : (v : ℤ) (n : ℕ) → (pos 2 *ℤ v) *ℤ pos n ≡ v *ℤ pos (2 * n)
 twice_times v n = ap (λ (z : ℤ). z *ℤ pos n) (*ℤ_comm (pos 2) v) ∙ times-times v 2 n
 
-twice_less : (v : ℤ) (n : ℕ) → (pos 2 *ℤ v -ℤ pos 1) *ℤ pos n ≡ v *ℤ pos (2 * n) -ℤ pos n
+pub twice_less : (v : ℤ) (n : ℕ) → (pos 2 *ℤ v -ℤ pos 1) *ℤ pos n ≡ v *ℤ pos (2 * n) -ℤ pos n
 twice_less v n =
     let apart : (pos 2 *ℤ v -ℤ pos 1) *ℤ pos n ≡ (pos 2 *ℤ v) *ℤ pos n -ℤ pos 1 *ℤ pos n = sub-*ℤ (pos 2 *ℤ v) (pos 1) (pos n) in
     rw (apart, twice_times v n) (omega (arith, ints))
 
-twice_more : (v : ℤ) (n : ℕ) → (pos 2 *ℤ v +ℤ pos 1) *ℤ pos n ≡ v *ℤ pos (2 * n) +ℤ pos n
+pub twice_more : (v : ℤ) (n : ℕ) → (pos 2 *ℤ v +ℤ pos 1) *ℤ pos n ≡ v *ℤ pos (2 * n) +ℤ pos n
 twice_more v n =
     let apart : (pos 2 *ℤ v +ℤ pos 1) *ℤ pos n ≡ (pos 2 *ℤ v) *ℤ pos n +ℤ pos 1 *ℤ pos n = add-*ℤ (pos 2 *ℤ v) (pos 1) (pos n) in
     rw (apart, twice_times v n) (omega (arith, ints))

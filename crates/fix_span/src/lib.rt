@@ -16,6 +16,7 @@ mod corners;
 mod encloses;
 mod frac;
 mod loose;
+mod quotient;
 mod rounding;
 mod scale;
 mod span;

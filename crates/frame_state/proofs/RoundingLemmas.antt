@@ -7,13 +7,13 @@ use borrow.Author.Differences.{up, down, product_is}
 use Rattle.page_model.specs.declared.easing.Easing.{Easing}
 use Rattle.page_model.specs.declared.easing.Easing.TheVariants.{Linear, Steps, Cubic}
 use Rattle.page_model.specs.Curve.{FractionReaches, eased, stepped}
-use Rattle.page_model.specs.Enclosure.{IsHiddenSurely, IsLoose, IsShownSurely, Kind}
+use Rattle.page_model.specs.Enclosure.{IsHiddenSurely, IsLoose, IsShownSurely, Kind, one_value}
 use Rattle.page_model.specs.Fraction.{Fraction}
 use Rattle.page_model.specs.Slot.{Slot, IsGreatestIn, IsHiddenExactlyWhere, IsShownValue, IsSlotValue, held, rounded, shown_value, slot_value, twice_the_way, twice_to_cover}
 use Rattle.fix_span.specs.IntLaws.{times_le}
 use Rattle.fix_span.specs.RoundingLaws.{at_most_floor, floor_above, floor_at_most}
 use Rattle.easing_bounds.specs.Value.{is_cubic}
-use Rattle.frame_state.specs.States.{IsInSlot, one_value, sure_of}
+use Rattle.frame_state.specs.States.{IsInSlot, sure_of}
 
 -- the quotient is the greatest whose product isn't above the number
 div-greatest : (a v : ℤ) (q : ℕ) → 0 < q → ((v *ℤ pos q) ≤ℤ a) ↔ (v ≤ℤ int_div_euclid a (pos q))

@@ -3,7 +3,7 @@ use Rattle.std.proofs.Common.{◌≡◌, ℕ, ◌<◌, ◌-◌, ℤ, pos, negsuc
 use Rattle.std.proofs.lemmas.Int.{ints}
 use Rattle.std.proofs.lemmas.Option.{get_or_from_slice_get, slice_get-get_or}
 use Rattle.page_model.specs.declared.animation.Anim.{Anim}
-use Rattle.page_model.specs.declared.colour.Rgb.{Rgb}
+use Rattle.page_model.specs.declared.colour.Rgba.{Rgba}
 use Rattle.page_model.specs.declared.easing.Easing.TheVariants.{Linear}
 use Rattle.page_model.specs.declared.property.Prop.{Prop}
 use Rattle.page_model.specs.declared.property.Prop.TheVariants.{Background, Opacity, Visibility, Left, Top, Width, Height}
@@ -11,17 +11,18 @@ use Rattle.page_model.specs.declared.property.Value.{Value}
 use Rattle.page_model.specs.declared.scene.Layer.{Layer}
 use Rattle.page_model.specs.declared.scene.Scene.{Scene}
 use Rattle.page_model.specs.declared.setup.Setup.{Setup}
-use Rattle.page_model.specs.Enclosure.{IsLooseOn, IsLooseStateAt, IsSurelyShownOn, IsSurelyShownWith, Kind, LooseState}
+use Rattle.page_model.specs.Enclosure.{IsLooseChannelOn, IsLooseOn, IsLooseStateAt, IsSurelyShownOn, IsSurelyShownWith, Kind, LooseState, one_value}
 use Rattle.page_model.specs.Fraction.{zero_of_one}
 use Rattle.page_model.specs.Keyframes.{Interval, last_of}
-use Rattle.page_model.specs.LayerAt.{Course, still, moving, IsShownOn, IsShownWith, IsStateAt, IsValueOn, State, alpha_of, blue_of, course_by, course_of, declared, green_of, interval_at, is_held, length_of, red_of, shown_on, shown_with, state_at, value_on, visible_of}
+use Rattle.page_model.specs.LayerAt.{Course, still, moving, IsChannelOn, IsShownOn, IsShownWith, IsStateAt, IsValueOn, State, alpha_of, blue_of, course_by, course_of, cover_of, declared, green_of, interval_at, is_held, length_of, red_of, shown_on, shown_with, state_at, value_on, visible_of}
 use Rattle.page_model.specs.Progress.{above_zero, progress_of}
-use Rattle.page_model.specs.Slot.{Slot, alpha, channel, extent, position, shown_value}
+use Rattle.page_model.specs.Slot.{Shade, Slot, alpha, cover, extent, position, shown_value}
 use Rattle.page_model.specs.ValidScene.{IsValid}
 use Rattle.frame_state.specs.declared.way.Ways.{Ways}
 use Rattle.frame_state.specs.Scenes.{CanBePainted}
-use Rattle.frame_state.specs.States.{IsInSlots, known, one_value, state_by, sure_of, sure_with}
-use Rattle.frame_state.specs.Ways.{AreWays, IsPlain, Way, chosen, eased_way, shown_by, value_by, way_in, way_of}
+use Rattle.frame_state.specs.States.{IsInSlot, IsInSlots, eight_bits, known, state_by, sure_of, sure_with}
+use Rattle.frame_state.specs.Ways.{AreWays, IsPlain, Way, channel_by, chosen, eased_way, shown_by, value_by, way_in, way_of}
+use Rattle.frame_state.proofs.ChannelLemmas.{channel-small, channel_on-is, channel_on-only, loose_channel_on-is}
 use Rattle.frame_state.proofs.CourseLemmas.{cases_Option, interval_at-none, interval_at-some}
 use Rattle.frame_state.proofs.PlainLemmas.{All-filter_map, All-slice_get, interval-plain}
 use Rattle.frame_state.proofs.RoundingLemmas.{in_slot, loose-is, shown-is, shown-only, value-only}
@@ -60,7 +61,7 @@ shown_on-is : (course : Course) → shown_on course ≡ shown_by (way_of course)
 shown_on-is (still x) = same_visible (visible_of x)
 shown_on-is (moving interval) = refl
 
-shown_with-is : (colour : Option Rgb) (course : Course) → sure_of (shown_with colour course) ≡ sure_with colour (way_of course)
+shown_with-is : (colour : Option Rgba) (course : Course) → sure_of (shown_with colour course) ≡ sure_with colour (way_of course)
 shown_with-is None course = refl
 shown_with-is (Some c) course = ap sure_of (shown_on-is course)
 
@@ -83,9 +84,10 @@ pub known-is : (scene : Scene) (setup : Setup) (frame : ℕ) (layer : Layer)
     → state_by layer (course_way scene setup frame layer) ≡ known (state_at scene setup frame layer)
 known-is scene setup frame layer =
     let fill = course_of scene setup frame layer Background in
-    let red = natural-is channel red_of fill (omega (arith, ints)) (omega (arith, ints)) in
-    let green = natural-is channel green_of fill (omega (arith, ints)) (omega (arith, ints)) in
-    let blue = natural-is channel blue_of fill (omega (arith, ints)) (omega (arith, ints)) in
+    let red = channel_on-is red_of fill in
+    let green = channel_on-is green_of fill in
+    let blue = channel_on-is blue_of fill in
+    let covered = natural-is cover cover_of fill (omega (arith, ints)) (omega (arith, ints)) in
     let opaque = natural-is alpha alpha_of (course_of scene setup frame layer Opacity) (omega (arith, ints)) (omega (arith, ints)) in
     let shown = shown_with-is layer.colour (course_of scene setup frame layer Visibility) in
     let left = value-is position length_of (course_of scene setup frame layer Left) in
@@ -96,6 +98,7 @@ known-is scene setup frame layer =
       red = one_value (sym red i);
       green = one_value (sym green i);
       blue = one_value (sym blue i);
+      cover = one_value (sym covered i);
       alpha = one_value (sym opaque i);
       shown = sym shown i;
       left = one_value (sym left i);
@@ -107,15 +110,24 @@ known-is scene setup frame layer =
 -- the ranges
 pub state_by-in_slots : (layer : Layer) (way : Prop → Way) → IsInSlots (state_by layer way)
 state_by-in_slots layer way = record {
-  red = in_slot channel (red_of (way Background).from) (red_of (way Background).to) (way Background).part (omega (arith, ints));
-  green = in_slot channel (green_of (way Background).from) (green_of (way Background).to) (way Background).part (omega (arith, ints));
-  blue = in_slot channel (blue_of (way Background).from) (blue_of (way Background).to) (way Background).part (omega (arith, ints));
-  alpha = in_slot alpha (alpha_of (way Opacity).from) (alpha_of (way Opacity).to) (way Opacity).part (omega (arith, ints));
+  red = channel-small red_of (way Background);
+  green = channel-small green_of (way Background);
+  blue = channel-small blue_of (way Background);
+  cover = as_bits cover (value_by cover cover_of (way Background)) refl refl
+      (in_slot cover (cover_of (way Background).from) (cover_of (way Background).to) (way Background).part (omega (arith, ints)));
+  alpha = as_bits alpha (value_by alpha alpha_of (way Opacity)) refl refl
+      (in_slot alpha (alpha_of (way Opacity).from) (alpha_of (way Opacity).to) (way Opacity).part (omega (arith, ints)));
   left = in_slot position (length_of (way Left).from) (length_of (way Left).to) (way Left).part (omega (arith, ints));
   top = in_slot position (length_of (way Top).from) (length_of (way Top).to) (way Top).part (omega (arith, ints));
   width = in_slot extent (length_of (way Width).from) (length_of (way Width).to) (way Width).part (omega (arith, ints));
   height = in_slot extent (length_of (way Height).from) (length_of (way Height).to) (way Height).part (omega (arith, ints));
-}
+} where
+  as_bits : (slot : Slot) (v : ℤ) → slot.least ≡ pos 0 → slot.greatest ≡ pos 255 → IsInSlot slot (one_value v) → IsInSlot eight_bits (one_value v)
+  as_bits slot v low high is = record {
+    at_least = rw (← low) is.at_least;
+    in_order = is.in_order;
+    at_most = rw (← high) is.at_most;
+  }
 
 -- a course whose easing is no curve
 abbrev IsPlainCourse : Course → Type 0
@@ -156,11 +168,17 @@ loose_on-is : (kind : Kind) (slot : Slot) (part : Value → ℤ) (course : Cours
 loose_on-is kind slot part (still x) unit some plain den = loose-is kind slot Linear zero_of_one (part x) (part x) refl unit some (omega arith)
 loose_on-is kind slot part (moving i) unit some plain den = loose-is kind slot i.easing i.distance (part i.from) (part i.to) plain.straight unit some den
 
+-- a channel
+loose_channel-on : (kind : Kind) (part : Value → Shade) (course : Course) → IsPlainCourse course
+    → IsLooseChannelOn kind part course (one_value (channel_by part (way_of course)))
+loose_channel-on kind part (still x) plain = refl
+loose_channel-on kind part (moving i) plain = loose_channel_on-is kind part i.easing i.distance i.from i.to plain.straight
+
 surely_on-is : (kind : Kind) (course : Course) → IsPlainCourse course → IsSurelyShownOn kind course (sure_of (shown_by (way_of course)))
 surely_on-is kind (still x) plain = shown-is kind Linear zero_of_one (visible_of x) (visible_of x) refl
 surely_on-is kind (moving i) plain = shown-is kind i.easing i.distance (visible_of i.from) (visible_of i.to) plain.straight
 
-surely_with-is : (kind : Kind) (colour : Option Rgb) (course : Course) → IsPlainCourse course → IsSurelyShownWith kind colour course (sure_with colour (way_of course))
+surely_with-is : (kind : Kind) (colour : Option Rgba) (course : Course) → IsPlainCourse course → IsSurelyShownWith kind colour course (sure_with colour (way_of course))
 surely_with-is kind None course plain = refl
 surely_with-is kind (Some c) course plain = surely_on-is kind course plain
 
@@ -171,9 +189,10 @@ state_by-loose kind scene setup frame number layer valid painted layer_is den =
     let plain : (prop : Prop) → IsPlainCourse (course_of scene setup frame layer prop) =
     λ prop. course-plain scene setup frame number layer prop valid painted layer_is in
     let fill : Course = course_of scene setup frame layer Background in record {
-      is_red = loose_on-is kind channel red_of fill (omega arith) (omega (arith, ints)) (plain Background) (den Background);
-      is_green = loose_on-is kind channel green_of fill (omega arith) (omega (arith, ints)) (plain Background) (den Background);
-      is_blue = loose_on-is kind channel blue_of fill (omega arith) (omega (arith, ints)) (plain Background) (den Background);
+      is_red = loose_channel-on kind red_of fill (plain Background);
+      is_green = loose_channel-on kind green_of fill (plain Background);
+      is_blue = loose_channel-on kind blue_of fill (plain Background);
+      is_cover = loose_on-is kind cover cover_of fill (omega arith) (omega (arith, ints)) (plain Background) (den Background);
       is_alpha = loose_on-is kind alpha alpha_of (course_of scene setup frame layer Opacity) (omega arith) (omega (arith, ints)) (plain Opacity) (den Opacity);
       is_shown = surely_with-is kind layer.colour (course_of scene setup frame layer Visibility) (plain Visibility);
       is_left = loose_on-is kind position length_of (course_of scene setup frame layer Left) (omega arith) (omega (arith, ints)) (plain Left) (den Left);
@@ -215,12 +234,16 @@ value_on-only slot part (still x) v unit plain den is = sym (value-only slot Lin
 value_on-only slot part (moving i) v unit plain den is =
     sym (value-only slot i.easing i.distance (part i.from) (part i.to) v plain.straight unit den is)
 
+level_on-only : (part : Value → Shade) (course : Course) (v : ℤ) → IsPlainCourse course → IsChannelOn part course v → channel_by part (way_of course) ≡ v
+level_on-only part (still x) v plain is = sym is
+level_on-only part (moving i) v plain is = channel_on-only part i.easing i.distance i.from i.to v plain.straight is
+
 shown_on-only : (course : Course) (shown : Bool) → IsPlainCourse course → IsShownOn course shown → shown_by (way_of course) ≡ shown
 shown_on-only (still x) shown plain is = sym (is ∙ same_visible (visible_of x))
 shown_on-only (moving i) shown plain is =
     sym (shown-only i.easing i.distance (visible_of i.from) (visible_of i.to) shown plain.straight is)
 
-shown_with-only : (colour : Option Rgb) (course : Course) (shown : Bool) → IsPlainCourse course → IsShownWith colour course shown
+shown_with-only : (colour : Option Rgba) (course : Course) (shown : Bool) → IsPlainCourse course → IsShownWith colour course shown
     → sure_with colour (way_of course) ≡ sure_of shown
 shown_with-only None course shown plain is = ap sure_of (sym is)
 shown_with-only (Some c) course shown plain is = ap sure_of (shown_on-only course shown plain is)
@@ -232,9 +255,10 @@ state_by-only scene setup frame number layer state valid painted layer_is den is
     let course : Prop → Course = course_of scene setup frame layer in
     let plain : (prop : Prop) → IsPlainCourse (course_of scene setup frame layer prop) =
     λ prop. course-plain scene setup frame number layer prop valid painted layer_is in
-    let red = value_on-only channel red_of (course Background) (pos state.red) (omega arith) (plain Background) (den Background) is.is_red in
-    let green = value_on-only channel green_of (course Background) (pos state.green) (omega arith) (plain Background) (den Background) is.is_green in
-    let blue = value_on-only channel blue_of (course Background) (pos state.blue) (omega arith) (plain Background) (den Background) is.is_blue in
+    let red = level_on-only red_of (course Background) (pos state.red) (plain Background) is.is_red in
+    let green = level_on-only green_of (course Background) (pos state.green) (plain Background) is.is_green in
+    let blue = level_on-only blue_of (course Background) (pos state.blue) (plain Background) is.is_blue in
+    let covered = value_on-only cover cover_of (course Background) (pos state.cover) (omega arith) (plain Background) (den Background) is.is_cover in
     let opaque = value_on-only alpha alpha_of (course Opacity) (pos state.alpha) (omega arith) (plain Opacity) (den Opacity) is.is_alpha in
     let shown = shown_with-only layer.colour (course Visibility) state.shown (plain Visibility) is.is_shown in
     let left = value_on-only position length_of (course Left) state.left (omega arith) (plain Left) (den Left) is.is_left in
@@ -245,6 +269,7 @@ state_by-only scene setup frame number layer state valid painted layer_is den is
       red = one_value (red i);
       green = one_value (green i);
       blue = one_value (blue i);
+      cover = one_value (covered i);
       alpha = one_value (opaque i);
       shown = shown i;
       left = one_value (left i);

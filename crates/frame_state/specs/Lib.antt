@@ -1,3 +1,4 @@
+pub mod Alpha
 pub mod Questions
 pub mod Scenes
 pub mod States

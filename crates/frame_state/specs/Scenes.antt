@@ -5,7 +5,7 @@ use Rattle.std.specs.List.{list_any}
 use Rattle.page_model.specs.declared.animation.Anim.{Anim}
 use Rattle.page_model.specs.declared.animation.Count.{Count}
 use Rattle.page_model.specs.declared.animation.Count.TheVariants.{Times, Infinite}
-use Rattle.page_model.specs.declared.colour.Rgb.{Rgb}
+use Rattle.page_model.specs.declared.colour.Rgba.{Rgba}
 use Rattle.page_model.specs.declared.keyframe.Keyframe.{Keyframe}
 use Rattle.page_model.specs.declared.keyframe.KeyframeSet.{KeyframeSet}
 use Rattle.page_model.specs.declared.property.Prop.TheVariants.{Left, Top, Width, Height}
@@ -66,7 +66,7 @@ abbrev pub is_endless : Scene → Bool
 is_endless scene = some_animation never_ends scene
 
 -- a colour's channels aren't all equal
-abbrev pub is_tinted : Rgb → Bool
+abbrev pub is_tinted : Rgba → Bool
 is_tinted c = not (c.r == c.g && c.g == c.b)
 
 abbrev pub is_tinted_value : Value → Bool

@@ -1,20 +1,20 @@
 -- The state of a layer as the code has it, seen as the definitions have it.
 use Rattle.std.specs.Prelude.{ℕ, ℤ, pos, Bool, true, false, Option, None, Some, ◌≡◌, ◌<◌, ◌≤ℤ◌, List, length, slice_get, option_map, unwrap_or}
-use Rattle.page_model.specs.declared.colour.Rgb.{Rgb}
+use Rattle.page_model.specs.declared.colour.Rgba.{Rgba}
 use Rattle.page_model.specs.declared.property.Prop.{Prop}
 use Rattle.page_model.specs.declared.property.Prop.TheVariants.{Background, Opacity, Visibility, Left, Top, Width, Height}
 use Rattle.page_model.specs.declared.scene.Layer.{Layer}
 use Rattle.page_model.specs.declared.scene.Scene.{Scene}
 use Rattle.page_model.specs.declared.setup.Setup.{Setup}
-use Rattle.page_model.specs.Enclosure.{Loose, LooseState, Sureness, surely, surely_not, maybe, own, IsLooseStateAt}
-use Rattle.page_model.specs.LayerAt.{IsStateAt, State, state_at, red_of, green_of, blue_of, alpha_of, length_of}
-use Rattle.page_model.specs.Slot.{Slot, channel, alpha, position, extent}
+use Rattle.page_model.specs.Enclosure.{Loose, LooseState, one_value, Sureness, surely, surely_not, maybe, own, IsLooseStateAt}
+use Rattle.page_model.specs.LayerAt.{IsStateAt, State, state_at, red_of, green_of, blue_of, cover_of, alpha_of, length_of}
+use Rattle.page_model.specs.Slot.{Slot, cover, alpha, position, extent}
 use Rattle.fix_span.specs.declared.loose.Loose.{Loose as Ends}
 use Rattle.frame_state.specs.declared.slots.Slot.{Slot as Held}
 use Rattle.frame_state.specs.declared.types.LayerState.{LayerState}
 use Rattle.frame_state.specs.declared.types.Shown.{Shown}
 use Rattle.frame_state.specs.declared.types.Shown.TheVariants.{Yes, No, Maybe}
-use Rattle.frame_state.specs.Ways.{Way, value_by, shown_by}
+use Rattle.frame_state.specs.Ways.{Way, channel_by, value_by, shown_by}
 
 abbrev pub slot_as : Held → Slot
 slot_as slot = record { unit = slot.unit; least = slot.least; greatest = slot.greatest }
@@ -32,6 +32,7 @@ state_as state = record {
   red = loose_as state.r;
   green = loose_as state.g;
   blue = loose_as state.b;
+  cover = loose_as state.cover;
   alpha = loose_as state.alpha;
   shown = sureness_of state.shown;
   left = loose_as state.left;
@@ -40,10 +41,7 @@ state_as state = record {
   height = loose_as state.height;
 }
 
--- one value, and one truth, as a loose one
-abbrev pub one_value : ℤ → Loose
-one_value v = record { lo = v; hi = v }
-
+-- one truth as a loose one
 abbrev pub sure_of : Bool → Sureness
 sure_of true = surely
 sure_of false = surely_not
@@ -54,6 +52,7 @@ known state = record {
   red = one_value (pos state.red);
   green = one_value (pos state.green);
   blue = one_value (pos state.blue);
+  cover = one_value (pos state.cover);
   alpha = one_value (pos state.alpha);
   shown = sure_of state.shown;
   left = one_value state.left;
@@ -68,12 +67,17 @@ pub record IsInSlot (slot : Slot) (loose : Loose) : Type 0 where
   pub in_order : loose.lo ≤ℤ loose.hi
   pub at_most : loose.hi ≤ℤ slot.greatest
 
+-- the range of channels, covers and alphas
+abbrev pub eight_bits : Slot
+eight_bits = record { unit = 1; least = pos 0; greatest = pos 255 }
+
 -- so has each of a state
 pub record IsInSlots (state : LooseState) : Type 0 where
-  pub red : IsInSlot channel state.red
-  pub green : IsInSlot channel state.green
-  pub blue : IsInSlot channel state.blue
-  pub alpha : IsInSlot alpha state.alpha
+  pub red : IsInSlot eight_bits state.red
+  pub green : IsInSlot eight_bits state.green
+  pub blue : IsInSlot eight_bits state.blue
+  pub cover : IsInSlot eight_bits state.cover
+  pub alpha : IsInSlot eight_bits state.alpha
   pub left : IsInSlot position state.left
   pub top : IsInSlot position state.top
   pub width : IsInSlot extent state.width
@@ -85,6 +89,7 @@ nothing = record {
   red = one_value (pos 0);
   green = one_value (pos 0);
   blue = one_value (pos 0);
+  cover = one_value (pos 0);
   alpha = one_value (pos 0);
   shown = surely_not;
   left = one_value (pos 0);
@@ -116,15 +121,16 @@ abbrev pub AreInSlots : Scene → (ℕ → LooseState) → Type 0
 AreInSlots scene states = (number : ℕ) → number < length scene.layers → IsInSlots (states number)
 
 -- a state by the ways of its properties
-abbrev pub sure_with : Option Rgb → Way → Sureness
+abbrev pub sure_with : Option Rgba → Way → Sureness
 sure_with None way = surely_not
 sure_with (Some colour) way = sure_of (shown_by way)
 
 abbrev pub state_by : Layer → (Prop → Way) → LooseState
 state_by layer way = record {
-  red = one_value (value_by channel red_of (way Background));
-  green = one_value (value_by channel green_of (way Background));
-  blue = one_value (value_by channel blue_of (way Background));
+  red = one_value (channel_by red_of (way Background));
+  green = one_value (channel_by green_of (way Background));
+  blue = one_value (channel_by blue_of (way Background));
+  cover = one_value (value_by cover cover_of (way Background));
   alpha = one_value (value_by alpha alpha_of (way Opacity));
   shown = sure_with layer.colour (way Visibility);
   left = one_value (value_by position length_of (way Left));

@@ -1,22 +1,23 @@
 // The state of a layer in a frame.
-ghost use Rattle.std.specs.Prelude.{Some, ◌≡◌, ◌^◌, ◌<◌, length, slice_get};
+ghost use Rattle.std.specs.Prelude.{Some, IfSome, ◌≡◌, ◌^◌, ◌<◌, length, slice_get};
 ghost use Rattle.page_model.specs.declared.property.Prop.{Prop as Property};
 ghost use Rattle.page_model.specs.declared.scene.Layer.{Layer as Element};
-ghost use Rattle.page_model.specs.Enclosure.{own, IsLooseStateAt};
+ghost use Rattle.page_model.specs.Enclosure.{own, one_value, IsLooseStateAt};
 ghost use Rattle.page_model.specs.LayerAt as definition;
 ghost use Rattle.page_model.specs.Slot as slots;
-ghost use Rattle.page_model.specs.ValidScene.{IsValid};
+ghost use Rattle.page_model.specs.ValidScene.{IsColour, IsValid};
 ghost use Rattle.frame_state.specs.Scenes.{CanBePainted};
-ghost use Rattle.frame_state.specs.States.{slot_as, loose_as, sureness_of, state_as, states_as, one_value, sure_with, state_by, known, IsInSlots, AreOwn, AreComputed, AreExact, AreInSlots};
-ghost use Rattle.frame_state.specs.Ways.{way_as, way_in, shown_by as is_shown_by, value_by};
+ghost use Rattle.frame_state.specs.States.{slot_as, loose_as, sureness_of, state_as, states_as, sure_with, state_by, known, IsInSlots, AreOwn, AreComputed, AreExact, AreInSlots};
+ghost use Rattle.frame_state.specs.Ways.{way_as, way_in, channel_by, shown_by as is_shown_by, value_by};
 
-use crate::parts::{alpha_of, blue_of, green_of, length_of, red_of, visible_of};
-use crate::slots::{ALPHA, CHANNEL, EXTENT, POSITION, Slot, slot_value};
+use crate::channels::channel_on;
+use crate::parts::{alpha_of, blue_of, cover_of, green_of, length_of, red_of, visible_of};
+use crate::slots::{ALPHA, COVER, EXTENT, POSITION, Slot, slot_value};
 use crate::types::{LayerState, Shown};
 use crate::way::{Way, Ways};
 use crate::ways::{way_of, ways_at};
 use fix_span::Loose;
-use page_model::{Layer, Prop, Rgb, Scene, Setup};
+use page_model::{Layer, Prop, Rgba, Scene, Setup};
 
 // Whether a box is shown on a way.
 fn shown_by(way: Way) -> bool
@@ -30,7 +31,7 @@ fn shown_by(way: Way) -> bool
     }
 }
 
-fn shown_with(colour: Option<Rgb>, way: Way) -> Shown
+fn shown_with(colour: Option<Rgba>, way: Way) -> Shown
     ensures { sureness_of result ≡ sure_with colour (way_as way) }
 {
     match colour {
@@ -39,27 +40,31 @@ fn shown_with(colour: Option<Rgb>, way: Way) -> Shown
     }
 }
 
-// The channels and the alpha on a way.
+// The channels, the cover and the alpha on a way.
 
 fn red_on(way: Way) -> Loose
-    ensures { loose_as result
-        ≡ one_value (value_by slots.channel definition.red_of (way_as way)) }
+    ensures { loose_as result ≡ one_value (channel_by definition.red_of (way_as way)) }
 {
-    slot_value(CHANNEL, red_of(way.from), red_of(way.to), way.part)
+    channel_on(red_of(way.from), red_of(way.to), way.part, way.moves)
 }
 
 fn green_on(way: Way) -> Loose
-    ensures { loose_as result
-        ≡ one_value (value_by slots.channel definition.green_of (way_as way)) }
+    ensures { loose_as result ≡ one_value (channel_by definition.green_of (way_as way)) }
 {
-    slot_value(CHANNEL, green_of(way.from), green_of(way.to), way.part)
+    channel_on(green_of(way.from), green_of(way.to), way.part, way.moves)
 }
 
 fn blue_on(way: Way) -> Loose
-    ensures { loose_as result
-        ≡ one_value (value_by slots.channel definition.blue_of (way_as way)) }
+    ensures { loose_as result ≡ one_value (channel_by definition.blue_of (way_as way)) }
 {
-    slot_value(CHANNEL, blue_of(way.from), blue_of(way.to), way.part)
+    channel_on(blue_of(way.from), blue_of(way.to), way.part, way.moves)
+}
+
+fn cover_on(way: Way) -> Loose
+    ensures { loose_as result
+        ≡ one_value (value_by slots.cover definition.cover_of (way_as way)) }
+{
+    slot_value(COVER, cover_of(way.from), cover_of(way.to), way.part)
 }
 
 fn alpha_on(way: Way) -> Loose
@@ -80,6 +85,7 @@ fn pixels(slot: Slot, way: Way) -> Loose
 
 // The state of a layer, by what animations make of its properties.
 fn state_of(layer: &Layer, ways: Ways) -> LayerState
+    requires { IfSome layer.now.colour IsColour }
     ensures value { state_as result ≡ state_by layer.now (way_in layer.now ways) }
     ensures positive { (prop : Property) → 0 < (way_in layer.now ways prop).part.den }
 {
@@ -95,6 +101,7 @@ fn state_of(layer: &Layer, ways: Ways) -> LayerState
         r: red_on(fill),
         g: green_on(fill),
         b: blue_on(fill),
+        cover: cover_on(fill),
         alpha: alpha_on(opacity),
         left: pixels(POSITION, left),
         top: pixels(POSITION, top),

@@ -1,4 +1,4 @@
-//! The state of a layer in a frame: its colour, its alpha, whether it is shown and its box, in whole numbers.
+//! The state of a layer in a frame: its colour, its cover, its alpha, whether it is shown and its box, in whole numbers.
 //!
 //! What paints a pixel asks this crate for the states of all layers; below it, timing says how far an animation
 //! is, the keyframe sets between which values a property then is, and the easing how far on its way.
@@ -12,6 +12,7 @@
 //! What a pixel then looks like is not said here.
 #![tactic(auto)]
 
+mod channels;
 mod layers;
 mod parts;
 mod scenes;

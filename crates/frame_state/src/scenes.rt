@@ -7,7 +7,7 @@ ghost use Rattle.frame_state.specs.Scenes as definition;
 
 use keyframe_sets::names;
 use page_model::{
-    Anim, Count, Easing, Keyframe, KeyframeSet, Layer, Prop, Rgb, Scene, Setting, Value,
+    Anim, Count, Easing, Keyframe, KeyframeSet, Layer, Prop, Rgba, Scene, Setting, Value,
 };
 
 // What is asked of an animation.
@@ -53,7 +53,7 @@ fn names_place(set: &KeyframeSet) -> bool
         || names(set, Prop::Height)
 }
 
-fn is_tinted(c: Rgb) -> bool
+fn is_tinted(c: Rgba) -> bool
     ensures { result ≡ definition.is_tinted c }
 {
     !(c.r == c.g && c.g == c.b)

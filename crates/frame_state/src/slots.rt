@@ -2,7 +2,8 @@
 ghost use Rattle.std.specs.Prelude.{◌≡◌, pos, ◌^◌, ◌<◌, ◌+ℤ◌, ◌-ℤ◌, ◌*ℤ◌, ◌≤ℤ◌};
 ghost use Rattle.page_model.specs.Slot as definition;
 ghost use Rattle.fix_span.specs.Frac.{fraction_of, IsShare};
-ghost use Rattle.frame_state.specs.States.{slot_as, loose_as, one_value};
+ghost use Rattle.page_model.specs.Enclosure.{one_value};
+ghost use Rattle.frame_state.specs.States.{slot_as, loose_as};
 
 use fix_span::{Encloses, Frac, Loose, mix};
 
@@ -14,8 +15,8 @@ pub struct Slot {
     pub greatest: i32,
 }
 
-pub const CHANNEL: Slot = Slot {
-    unit: 1,
+pub const COVER: Slot = Slot {
+    unit: 1000,
     least: 0,
     greatest: 255,
 };
@@ -39,7 +40,7 @@ pub const EXTENT: Slot = Slot {
 };
 
 // The fraction on the way from one number to another.
-fn between(from: i32, to: i32, part: Frac) -> Frac
+pub fn between(from: i32, to: i32, part: Frac) -> Frac
     requires share { IsShare part }
     requires few { part.den ≤ℤ pos (2 ^ 48) }
     ensures num { result.num ≡ from *ℤ part.den +ℤ (to -ℤ from) *ℤ part.num }

@@ -3,13 +3,18 @@ use super::*;
 use crate::slots::{ALPHA, POSITION, slot_value};
 use fix_span::{Frac, Loose};
 use page_model::{
-    Anim, Count, Direction, Easing, Fill, Held, Keyframe, KeyframeSet, Layer, List, Prop, Rgb,
+    Anim, Count, Direction, Easing, Fill, Held, Keyframe, KeyframeSet, Layer, List, Prop, Rgba,
     Scene, Setting, Value,
 };
 use std::alloc::Global;
 use std::test::Fail;
 
-const RED: Rgb = Rgb { r: 255, g: 0, b: 0 };
+const RED: Rgba = Rgba {
+    r: 255,
+    g: 0,
+    b: 0,
+    a: 255_000,
+};
 
 const NOT_HELD: Held = Held {
     background: false,
@@ -58,7 +63,12 @@ fn animated_by(alloc: Global, set: u32) -> Result<Scene, Fail> {
         paused: false,
     };
     let body = Layer {
-        colour: Some(Rgb { r: 0, g: 0, b: 0 }),
+        colour: Some(Rgba {
+            r: 0,
+            g: 0,
+            b: 0,
+            a: 255_000,
+        }),
         opacity: 1000,
         shown: true,
         left: 0,

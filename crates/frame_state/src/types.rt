@@ -9,14 +9,15 @@ pub enum Shown {
     Maybe,
 }
 
-/// A layer in a frame, each number between its ends: the channels of its colour and its alpha from 0 to 255,
-/// and its box in whole pixels.
+/// A layer in a frame, each number between its ends: the channels and the cover of its colour and the alpha of
+/// its opacity from 0 to 255, and its box in whole pixels.
 #[derive(Clone, Copy, Debug, PartialEq, Eq)]
 pub struct LayerState {
     pub shown: Shown,
     pub r: Loose,
     pub g: Loose,
     pub b: Loose,
+    pub cover: Loose,
     pub alpha: Loose,
     pub left: Loose,
     pub top: Loose,

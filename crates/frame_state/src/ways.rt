@@ -1,12 +1,13 @@
 // The ways of a layer's properties.
-ghost use Rattle.std.specs.Prelude.{Some, length, ◌≡◌, pos, ◌^◌, ◌<◌, ◌≤◌, ◌≤ℤ◌, All, slice_get, option_map};
+ghost use Rattle.std.specs.Prelude.{Some, length, ◌≡◌, pos, ◌^◌, ◌<◌, ◌≤◌, ◌≤ℤ◌, All, IfSome, slice_get, option_map};
 ghost use Rattle.page_model.specs.declared.property.Prop.{Prop as Property};
 ghost use Rattle.page_model.specs.declared.scene.Layer.{Layer as Element};
 ghost use Rattle.page_model.specs.LayerAt as shown;
-ghost use Rattle.page_model.specs.ValidScene.{IsValid};
+ghost use Rattle.page_model.specs.ValidScene.{IsColour, IsValid};
 ghost use Rattle.fix_span.specs.Frac.{fraction_of, IsShare};
 ghost use Rattle.anim_timing.specs.Timed.{IsTimed};
 ghost use Rattle.keyframe_sets.specs.Here.{interval_here};
+ghost use Rattle.frame_state.specs.Alpha.{HasAlpha};
 ghost use Rattle.frame_state.specs.Scenes.{CanBePainted};
 ghost use Rattle.frame_state.specs.Ways as definition;
 
@@ -21,12 +22,14 @@ use page_model::{Anim, Held, Layer, Prop, Scene, Setup, Value};
 
 // The way of a value that stays.
 fn stays(value: Value) -> Way
+    requires { HasAlpha value }
     ensures { definition.way_as result ≡ definition.stays value }
 {
     Way {
         from: value,
         to: value,
         part: Frac { num: 0, den: 1 },
+        moves: false,
     }
 }
 
@@ -35,6 +38,8 @@ fn eased_way(interval: Interval) -> Way
     requires plain { definition.IsPlain interval.easing }
     requires share { IsShare interval.distance }
     requires few { interval.distance.den ≤ℤ pos (2 ^ 48) }
+    requires first { HasAlpha interval.from }
+    requires second { HasAlpha interval.to }
     ensures { definition.way_as result ≡ definition.eased_way (definition.interval_as interval) }
 {
     let Eased::Exact(part) = eased(&interval.easing, interval.distance);
@@ -42,6 +47,7 @@ fn eased_way(interval: Interval) -> Way
         from: interval.from,
         to: interval.to,
         part,
+        moves: true,
     }
 }
 
@@ -155,6 +161,7 @@ fn is_held(held: Held, prop: Prop) -> bool
 
 // The way of a property, by what animations make of it.
 pub fn way_of(layer: &Layer, prop: Prop, found: Option<Way>) -> Way
+    requires { IfSome layer.now.colour IsColour }
     ensures value { definition.way_as result ≡ definition.chosen (shown.is_held layer.now.important prop)
         (shown.declared layer.now prop) (option_map definition.way_as found) }
     ensures positive { 0 < (definition.way_as result).part.den }

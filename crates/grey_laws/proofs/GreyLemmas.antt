@@ -1,12 +1,12 @@
 -- In a scene that is animated and has no colours but greys, each course goes between greys.
-use Rattle.std.proofs.Common.{◌≡◌, ℕ, suc, ◌-◌, Bool, true, false, not, List, [], ◌∷◌, ◌++◌, All, Option, Some, None, filter, filter_map, get_or, length, slice_get, if◌then◌else◌, option_and_then, option_map, unwrap_or, arith, inl, inr, refl, subst}
+use Rattle.std.proofs.Common.{◌≡◌, ℕ, suc, ◌-◌, Bool, true, false, not, List, [], ◌∷◌, ◌++◌, All, Option, Some, None, filter, filter_map, get_or, length, slice_get, if◌then◌else◌, option_and_then, option_map, unwrap_or, arith, inl, inr, refl, subst, sym}
 use Rattle.std.specs.Prelude.{◌==◌, ◌&&◌, find}
 use Rattle.std.specs.List.{cons_option, list_any}
 use Rattle.std.proofs.lemmas.Bool.{and_parts, cases_Bool, eqb-true, not-false, or_parts}
 use Rattle.std.proofs.lemmas.List.Elements.{All-append, All-cons, All-filter, All-head, All-tail}
 use Rattle.std.proofs.lemmas.Option.{get_or_from_slice_get, option_and_then_some, slice_get_within}
 use Rattle.page_model.specs.declared.animation.Anim.{Anim}
-use Rattle.page_model.specs.declared.colour.Rgb.{Rgb}
+use Rattle.page_model.specs.declared.colour.Rgba.{Rgba}
 use Rattle.page_model.specs.declared.easing.Easing.{Easing}
 use Rattle.page_model.specs.declared.keyframe.Keyframe.{Keyframe}
 use Rattle.page_model.specs.declared.keyframe.KeyframeSet.{KeyframeSet}
@@ -46,12 +46,19 @@ pub record IsGrey (v : Value) : Type 0 where
   pub green : green_of v ≡ red_of v
   pub blue : blue_of v ≡ red_of v
 
-grey-colour : (c : Rgb) → is_tinted c ≡ false → IsGrey (value.Colour c)
+grey-colour : (c : Rgba) → is_tinted c ≡ false → IsGrey (value.Colour c)
 grey-colour c none =
     let both = and_parts (c.r == c.g) (c.g == c.b) (not-false (c.r == c.g && c.g == c.b) none) in
     let first : c.r ≡ c.g = eqb-true c.r c.g both.0 in
     let second : c.g ≡ c.b = eqb-true c.g c.b both.1 in
-    record { green = cc; blue = cc }
+    let third = second-first c first second in
+    record {
+      green = λ i. record { level = sym first i; alpha = c.a };
+      blue = λ i. record { level = third i; alpha = c.a };
+    }
+  where
+    second-first : (c : Rgba) → c.r ≡ c.g → c.g ≡ c.b → c.b ≡ c.r
+    second-first c first second = cc
 
 pub grey-value : (v : Value) → is_tinted_value v ≡ false → IsGrey v
 grey-value (value.Colour c) none = grey-colour c none
@@ -152,7 +159,7 @@ by-grey true own found grey each = grey
 by-grey false own None grey each = grey
 by-grey false own (Some interval) grey each = each interval refl
 
-declared-grey : (layer : Layer) (o : Option Rgb) → layer.colour ≡ o → passes is_tinted o ≡ false → IsGrey (value.Colour (unwrap_or o no_colour))
+declared-grey : (layer : Layer) (o : Option Rgba) → layer.colour ≡ o → passes is_tinted o ≡ false → IsGrey (value.Colour (unwrap_or o no_colour))
 declared-grey layer None is none = record { green = refl; blue = refl }
 declared-grey layer (Some c) is none = grey-colour c none
 

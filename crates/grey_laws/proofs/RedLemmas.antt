@@ -16,22 +16,20 @@ use Rattle.page_model.specs.declared.scene.Scene.{Scene}
 use Rattle.page_model.specs.declared.setup.Setup.{Setup}
 use Rattle.page_model.specs.Change.{AreFarBy, Enclosed, IsPossiblyRed, IsSingle, IsSurelyRed, enclosed, greatest_gap, least_gap}
 use Rattle.page_model.specs.Colour.{body_colour}
-use Rattle.page_model.specs.Enclosure.{Loose, LooseRun, LooseState, Sureness, surely, surely_not, maybe, own, IsLoose, IsLooseOn, IsLooseStateAt, IsSurelyShownWith}
-use Rattle.page_model.specs.Fraction.{zero_of_one}
-use Rattle.page_model.specs.declared.easing.Easing.TheVariants.{Linear}
+use Rattle.page_model.specs.Enclosure.{Loose, LooseRun, LooseState, Sureness, surely, surely_not, maybe, one_value, own, IsLooseChannel, IsLooseChannelOn, IsLooseOn, IsLooseStateAt, IsSurelyShownWith}
 use Rattle.page_model.specs.Flash.{Alternates, Between, HasChain}
 use Rattle.page_model.specs.Keyframes.{last_of}
-use Rattle.page_model.specs.LayerAt.{Course, still, moving, alpha_of, blue_of, course_by, course_of, declared, green_of, interval_at, is_held, length_of, red_of}
+use Rattle.page_model.specs.LayerAt.{Course, still, moving, alpha_of, blue_of, course_by, course_of, cover_of, declared, green_of, interval_at, is_held, length_of, red_of}
 use Rattle.page_model.specs.Red.{Chromaticity, IsSaturated, chromaticity_of, white}
-use Rattle.page_model.specs.Slot.{alpha, channel, extent, position}
+use Rattle.page_model.specs.Slot.{alpha, cover, extent, own_level, position}
 use Rattle.page_model.specs.Time.{window_of}
-use Rattle.page_model.specs.TintOf.{IsLooseRunIn, Span, blended_span, blue_span, both, covers_surely, green_span, hull, painted_where, red_span, single, span_of, tint_box, tint_by, tint_ground, tint_hull, tint_of, tint_over, tints_of}
+use Rattle.page_model.specs.TintOf.{IsLooseRunIn, Span, blended_span, blue_span, both, combined_span, covers_surely, full_alpha, green_span, hull, painted_where, red_span, single, span_of, tint_box, tint_ground, tint_hull, tint_of, tint_over, tints_of}
 use Rattle.page_model.specs.ValidScene.{IsValid}
 use Rattle.page_model.specs.Window.{PossiblyInto, PossiblyOut, SurelyInto, SurelyOut}
 use Rattle.flash_laws.specs.LightLaws.{grey}
 use Rattle.flash_laws.proofs.LightLemmas.{grey-not_saturated}
 use Rattle.frame_state.specs.Scenes.{is_animated, is_coloured, is_tinted, is_tinted_set, passes, set_passes, some_animation}
-use Rattle.wide_laws.proofs.LooseLemmas.{loose_on-unique, loose_state-unique}
+use Rattle.wide_laws.proofs.LooseLemmas.{loose_channel_on-unique, loose_state-unique}
 use Rattle.grey_laws.specs.RedLaws.{IsWithin, NeverTurns}
 use Rattle.grey_laws.proofs.GreyLemmas.{All-slice_get, IsGreyCourse, course-grey, none_passes}
 use Rattle.grey_laws.proofs.TintLemmas.{tint-alike}
@@ -58,24 +56,24 @@ pub record IsGreyState (state : LooseState) : Type 0 where
   pub green : state.green ≡ state.red
   pub blue : state.blue ≡ state.red
 
-green-red : (course : Course) (loose : Loose) → IsGreyCourse course → IsLooseOn own channel green_of course loose → IsLooseOn own channel red_of course loose
-green-red (still v) loose grey is = subst (λ z. IsLoose own channel Linear zero_of_one z z loose) grey.green is
+green-red : (course : Course) (loose : Loose) → IsGreyCourse course → IsLooseChannelOn own green_of course loose → IsLooseChannelOn own red_of course loose
+green-red (still v) loose grey is = subst (λ z. loose ≡ one_value (own_level z)) grey.green is
 green-red (moving i) loose (from, to) is =
-    subst (λ z. IsLoose own channel i.easing i.distance z (red_of i.to) loose) from.green
-    (subst (λ z. IsLoose own channel i.easing i.distance (green_of i.from) z loose) to.green is)
+    subst (λ z. IsLooseChannel own i.easing i.distance z (red_of i.to) loose) from.green
+    (subst (λ z. IsLooseChannel own i.easing i.distance (green_of i.from) z loose) to.green is)
 
-blue-red : (course : Course) (loose : Loose) → IsGreyCourse course → IsLooseOn own channel blue_of course loose → IsLooseOn own channel red_of course loose
-blue-red (still v) loose grey is = subst (λ z. IsLoose own channel Linear zero_of_one z z loose) grey.blue is
+blue-red : (course : Course) (loose : Loose) → IsGreyCourse course → IsLooseChannelOn own blue_of course loose → IsLooseChannelOn own red_of course loose
+blue-red (still v) loose grey is = subst (λ z. loose ≡ one_value (own_level z)) grey.blue is
 blue-red (moving i) loose (from, to) is =
-    subst (λ z. IsLoose own channel i.easing i.distance z (red_of i.to) loose) from.blue
-    (subst (λ z. IsLoose own channel i.easing i.distance (blue_of i.from) z loose) to.blue is)
+    subst (λ z. IsLooseChannel own i.easing i.distance z (red_of i.to) loose) from.blue
+    (subst (λ z. IsLooseChannel own i.easing i.distance (blue_of i.from) z loose) to.blue is)
 
 grey-state : (scene : Scene) (setup : Setup) (frame : ℕ) (layer : Layer) (state : LooseState) → IsGreyCourse (course_of scene setup frame layer Background)
     → IsLooseStateAt own scene setup frame layer state → IsGreyState state
 grey-state scene setup frame layer state grey is =
     let course : Course = course_of scene setup frame layer Background in record {
-      green = loose_on-unique own channel red_of course state.green state.red (green-red course state.green grey is.is_green) is.is_red;
-      blue = loose_on-unique own channel red_of course state.blue state.red (blue-red course state.blue grey is.is_blue) is.is_red;
+      green = loose_channel_on-unique own red_of course state.green state.red (green-red course state.green grey is.is_green) is.is_red;
+      blue = loose_channel_on-unique own red_of course state.blue state.red (blue-red course state.blue grey is.is_blue) is.is_red;
     }
 
 -- greys painted over greys
@@ -83,13 +81,14 @@ pub record IsGreyTint (tint : Tint) : Type 0 where
   pub green : green_span tint ≡ red_span tint
   pub blue : blue_span tint ≡ red_span tint
 
-over-grey : (state : LooseState) (tint : Tint) → IsGreyState state → IsGreyTint tint → IsGreyTint (tint_over state tint)
-over-grey state tint grey under = record {
-  green = ap (λ (s : Loose). blended_span (span_of s) (span_of state.alpha) (green_span tint)) grey.green
-      ∙ ap (λ (b : Span). blended_span (span_of state.red) (span_of state.alpha) b) under.green;
-  blue = ap (λ (s : Loose). blended_span (span_of s) (span_of state.alpha) (blue_span tint)) grey.blue
-      ∙ ap (λ (b : Span). blended_span (span_of state.red) (span_of state.alpha) b) under.blue;
-}
+over-grey : (state : LooseState) (alpha : Span) (tint : Tint) → IsGreyState state → IsGreyTint tint → IsGreyTint (tint_over state alpha tint)
+over-grey state alpha tint grey under =
+    let both : Span = combined_span (span_of state.cover) alpha in record {
+      green = ap (λ (s : Loose). blended_span (span_of s) both (green_span tint)) grey.green
+          ∙ ap (λ (b : Span). blended_span (span_of state.red) both b) under.green;
+      blue = ap (λ (s : Loose). blended_span (span_of s) both (blue_span tint)) grey.blue
+          ∙ ap (λ (b : Span). blended_span (span_of state.red) both b) under.blue;
+    }
 
 hull-grey : (a b : Tint) → IsGreyTint a → IsGreyTint b → IsGreyTint (tint_hull a b)
 hull-grey a b one other = record {
@@ -108,13 +107,16 @@ boxes-grey states column row [] tint all grey = grey
 boxes-grey states column row (number ∷ rest) tint all grey =
     let Grey : ℕ → Type 0 = λ n. IsGreyState (states n) in
     boxes-grey states column row rest (tint_box states column row tint number) (All-tail Grey number rest all)
-    (where-grey (both (states number).shown (covers_surely (states number) column row)) (tint_over (states number) tint) tint
-    (over-grey (states number) tint (All-head Grey number rest all) grey) grey)
+    (where-grey (both (states number).shown (covers_surely (states number) column row)) (tint_over (states number) (span_of (states number).alpha) tint) tint
+    (over-grey (states number) (span_of (states number).alpha) tint (All-head Grey number rest all) grey) grey)
+
+white-grey : IsGreyTint (single white)
+white-grey = record { green = refl; blue = refl }
 
 ground-grey : (test : Bool) (state : LooseState) → IsGreyState state
-    → IsGreyTint (if test then tint_by (span_of state.red) (span_of state.green) (span_of state.blue) else single white)
-ground-grey true state grey = record { green = ap span_of grey.green; blue = ap span_of grey.blue }
-ground-grey false state grey = record { green = refl; blue = refl }
+    → IsGreyTint (if test then tint_over state full_alpha (single white) else single white)
+ground-grey true state grey = over-grey state full_alpha (single white) grey white-grey
+ground-grey false state grey = white-grey
 
 tint-grey : (scene : Scene) (states : ℕ → LooseState) (column row : ℕ) → IsValid scene
     → ((number : ℕ) → number < length scene.layers → IsGreyState (states number)) → IsGreyTint (tint_of scene states column row)
@@ -170,9 +172,10 @@ course-stays scene setup frame layer prop none =
 state-stays : (scene : Scene) (setup : Setup) (j k : ℕ) (layer : Layer) (state : LooseState) → layer.anims ≡ []
     → IsLooseStateAt own scene setup j layer state → IsLooseStateAt own scene setup k layer state
 state-stays scene setup j k layer state none is = record {
-  is_red = subst (λ (c : Course). IsLooseOn own channel red_of c state.red) (same Background) is.is_red;
-  is_green = subst (λ (c : Course). IsLooseOn own channel green_of c state.green) (same Background) is.is_green;
-  is_blue = subst (λ (c : Course). IsLooseOn own channel blue_of c state.blue) (same Background) is.is_blue;
+  is_red = subst (λ (c : Course). IsLooseChannelOn own red_of c state.red) (same Background) is.is_red;
+  is_green = subst (λ (c : Course). IsLooseChannelOn own green_of c state.green) (same Background) is.is_green;
+  is_blue = subst (λ (c : Course). IsLooseChannelOn own blue_of c state.blue) (same Background) is.is_blue;
+  is_cover = subst (λ (c : Course). IsLooseOn own cover cover_of c state.cover) (same Background) is.is_cover;
   is_alpha = subst (λ (c : Course). IsLooseOn own alpha alpha_of c state.alpha) (same Opacity) is.is_alpha;
   is_shown = subst (λ (c : Course). IsSurelyShownWith own layer.colour c state.shown) (same Visibility) is.is_shown;
   is_left = subst (λ (c : Course). IsLooseOn own position length_of c state.left) (same Left) is.is_left;

@@ -11,12 +11,12 @@ use Rattle.page_model.specs.declared.property.Prop.TheVariants.{Background, Opac
 use Rattle.page_model.specs.declared.property.Value.{Value}
 use Rattle.page_model.specs.declared.scene.Layer.{Layer}
 use Rattle.page_model.specs.declared.scene.Scene.{Scene}
-use Rattle.page_model.specs.Enclosure.{IsLooseOn, IsLooseStateAt, IsSurelyShownWith, Kind, LooseState}
+use Rattle.page_model.specs.Enclosure.{IsLooseChannelOn, IsLooseOn, IsLooseStateAt, IsSurelyShownWith, Kind, LooseState}
 use Rattle.page_model.specs.Horizon.{IsHorizon, all_animations, animations_of}
 use Rattle.page_model.specs.Keyframes.{Interval, interval_of, last_of}
-use Rattle.page_model.specs.LayerAt.{still, State, IsShownWith, IsStateAt, IsValueOn, alpha_of, blue_of, course_by, course_of, declared, green_of, interval_at, is_held, length_of, red_of}
+use Rattle.page_model.specs.LayerAt.{still, State, IsChannelOn, IsShownWith, IsStateAt, IsValueOn, alpha_of, blue_of, course_by, course_of, cover_of, declared, green_of, interval_at, is_held, length_of, red_of}
 use Rattle.page_model.specs.Progress.{progress_of}
-use Rattle.page_model.specs.Slot.{alpha, channel, extent, position}
+use Rattle.page_model.specs.Slot.{alpha, cover, extent, position}
 use Rattle.page_model.specs.Time.{HasFrames}
 use Rattle.horizon_laws.proofs.RepeatLemmas.{repeats-together}
 use Rattle.horizon_laws.specs.ForeverLaws.{StatesRepeat}
@@ -69,9 +69,10 @@ state-carries :
     → ((prop : Prop) → course_of scene setup frame layer prop ≡ course_of scene setup other layer prop)
     → IsStateAt scene setup frame layer state → IsStateAt scene setup other layer state
 state-carries scene setup frame other layer state same is = record {
-  is_red = subst (λ x. IsValueOn channel red_of x (pos state.red)) (same Background) is.is_red;
-  is_green = subst (λ x. IsValueOn channel green_of x (pos state.green)) (same Background) is.is_green;
-  is_blue = subst (λ x. IsValueOn channel blue_of x (pos state.blue)) (same Background) is.is_blue;
+  is_red = subst (λ x. IsChannelOn red_of x (pos state.red)) (same Background) is.is_red;
+  is_green = subst (λ x. IsChannelOn green_of x (pos state.green)) (same Background) is.is_green;
+  is_blue = subst (λ x. IsChannelOn blue_of x (pos state.blue)) (same Background) is.is_blue;
+  is_cover = subst (λ x. IsValueOn cover cover_of x (pos state.cover)) (same Background) is.is_cover;
   is_alpha = subst (λ x. IsValueOn alpha alpha_of x (pos state.alpha)) (same Opacity) is.is_alpha;
   is_shown = subst (λ x. IsShownWith layer.colour x state.shown) (same Visibility) is.is_shown;
   is_left = subst (λ x. IsValueOn position length_of x state.left) (same Left) is.is_left;
@@ -85,9 +86,10 @@ loose_state-carries :
     → ((prop : Prop) → course_of scene setup frame layer prop ≡ course_of scene setup other layer prop)
     → IsLooseStateAt kind scene setup frame layer state → IsLooseStateAt kind scene setup other layer state
 loose_state-carries kind scene setup frame other layer state same is = record {
-  is_red = subst (λ x. IsLooseOn kind channel red_of x state.red) (same Background) is.is_red;
-  is_green = subst (λ x. IsLooseOn kind channel green_of x state.green) (same Background) is.is_green;
-  is_blue = subst (λ x. IsLooseOn kind channel blue_of x state.blue) (same Background) is.is_blue;
+  is_red = subst (λ x. IsLooseChannelOn kind red_of x state.red) (same Background) is.is_red;
+  is_green = subst (λ x. IsLooseChannelOn kind green_of x state.green) (same Background) is.is_green;
+  is_blue = subst (λ x. IsLooseChannelOn kind blue_of x state.blue) (same Background) is.is_blue;
+  is_cover = subst (λ x. IsLooseOn kind cover cover_of x state.cover) (same Background) is.is_cover;
   is_alpha = subst (λ x. IsLooseOn kind alpha alpha_of x state.alpha) (same Opacity) is.is_alpha;
   is_shown = subst (λ x. IsSurelyShownWith kind layer.colour x state.shown) (same Visibility) is.is_shown;
   is_left = subst (λ x. IsLooseOn kind position length_of x state.left) (same Left) is.is_left;

@@ -2,13 +2,18 @@
 ghost use Rattle.std.specs.Prelude.{◌≡◌};
 ghost use Rattle.page_model.specs.LayerAt as definition;
 
-use page_model::{Layer, Prop, Rgb, Value};
+use page_model::{Layer, Prop, Rgba, Value};
 
 // The colour that stands for none.
-const NO_COLOUR: Rgb = Rgb { r: 0, g: 0, b: 0 };
+const NO_COLOUR: Rgba = Rgba {
+    r: 0,
+    g: 0,
+    b: 0,
+    a: 0,
+};
 
 /// The declared value of a property, which it has where no animation changes it. A body without a colour, which
-/// isn't painted, counts as black here.
+/// isn't painted, counts as transparent here.
 pub fn declared(layer: &Layer, prop: Prop) -> Value
     ensures { result ≡ definition.declared layer.now prop }
 {

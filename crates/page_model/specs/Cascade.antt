@@ -13,7 +13,7 @@ use Rattle.page_model.specs.declared.animation.Direction.{Direction}
 use Rattle.page_model.specs.declared.animation.Direction.TheVariants.{Normal}
 use Rattle.page_model.specs.declared.animation.Fill.{Fill}
 use Rattle.page_model.specs.declared.animation.Fill.TheVariants.{Absent}
-use Rattle.page_model.specs.declared.colour.Rgb.{Rgb}
+use Rattle.page_model.specs.declared.colour.Rgba.{Rgba}
 use Rattle.page_model.specs.declared.easing.Easing.{Easing}
 use Rattle.page_model.specs.declared.easing.Easing.TheVariants.{Cubic}
 use Rattle.page_model.specs.declared.element.Tag.{Tag}
@@ -178,7 +178,7 @@ length_in (Width v) = Some v
 length_in (Height v) = Some v
 length_in other = None
 
-abbrev pub colour_in : Longhand → Option Rgb
+abbrev pub colour_in : Longhand → Option Rgba
 colour_in (Colour c) = Some c
 colour_in other = None
 

@@ -1,10 +1,11 @@
--- The colour of a pixel: the canvas is white, the body paints every pixel where it has a colour, and the boxes follow in paint
--- order, each blended over what is there in eight bits. Over the states of the layers, which are handed in: so what is said of
+-- The colour of a pixel: the canvas is white, the body is painted on every pixel where it has a colour, and the boxes follow in
+-- paint order, each blended over what is there in eight bits, by the cover of its colour and the alpha of its opacity together. Over the states of the layers, which are handed in: so what is said of
 -- colours is said of the exact states, whatever they are, and nothing has to be found by search. The paint order is that of
 -- CSS 2 (z-index, then document order); blending in eight bits with its rounding is the project's own.
 use Rattle.std.specs.Prelude.{ℕ, ℤ, pos, Bool, Option, Some, ◌≡◌, ◌+◌, ◌-◌, ◌*◌, ◌/◌, ◌≤◌, ◌+ℤ◌, ◌&&◌, fold, slice_get, is_some, option_and_then, int_le, int_lt, if◌then◌else◌}
 use Rattle.page_model.specs.declared.setup.Setup.{Setup}
 use Rattle.page_model.specs.declared.colour.Rgb.{Rgb}
+use Rattle.page_model.specs.declared.colour.Rgba.{Rgba}
 use Rattle.page_model.specs.declared.scene.Layer.{Layer}
 use Rattle.page_model.specs.declared.scene.Scene.{Scene}
 use Rattle.page_model.specs.Flash.{Painting, IsBad}
@@ -16,17 +17,17 @@ use Rattle.page_model.specs.Time.{window_of}
 abbrev pub blended : ℕ → ℕ → ℕ → ℕ
 blended source alpha backdrop = (source * alpha + backdrop * (255 - alpha) + 127) / 255
 
--- a state's colour over a backdrop
-abbrev pub over : State → Rgb → Rgb
-over state backdrop = record {
-  r = blended state.red state.alpha backdrop.r;
-  g = blended state.green state.alpha backdrop.g;
-  b = blended state.blue state.alpha backdrop.b;
-}
+-- the cover of a colour and an alpha from 0 to 255 together, rounded half up
+abbrev pub combined : ℕ → ℕ → ℕ
+combined cover alpha = (cover * alpha + 127) / 255
 
--- a state's own colour
-abbrev pub colour_of : State → Rgb
-colour_of state = record { r = state.red; g = state.green; b = state.blue }
+-- a state's colour over a backdrop, by an alpha from 0 to 255 beside the colour's own cover
+abbrev pub over : State → ℕ → Rgb → Rgb
+over state alpha backdrop = record {
+  r = blended state.red (combined state.cover alpha) backdrop.r;
+  g = blended state.green (combined state.cover alpha) backdrop.g;
+  b = blended state.blue (combined state.cover alpha) backdrop.b;
+}
 
 -- a box from an edge covers a column, or a row: its right edge is the left one and its width together, and isn't covered
 abbrev pub spans : ℤ → ℤ → ℕ → Bool
@@ -38,15 +39,15 @@ covers state column row = spans state.left state.width column && spans state.top
 -- the pixel after a box is painted, of which the state is known
 abbrev pub paint_box : (ℕ → State) → ℕ → ℕ → Rgb → ℕ → Rgb
 paint_box states column row backdrop box =
-    if (states box).shown && covers (states box) column row then over (states box) backdrop else backdrop
+    if (states box).shown && covers (states box) column row then over (states box) (states box).alpha backdrop else backdrop
 
 -- the declared colour of the body, if it has one
-abbrev pub body_colour : Scene → Option Rgb
+abbrev pub body_colour : Scene → Option Rgba
 body_colour scene = option_and_then (λ (body : Layer). body.colour) (slice_get scene.layers 0)
 
--- the pixel before any box is painted
+-- the pixel before any box is painted: the body over white, whatever its opacity and whether it is shown
 abbrev pub ground : Scene → (ℕ → State) → Rgb
-ground scene states = if is_some (body_colour scene) then colour_of (states 0) else white
+ground scene states = if is_some (body_colour scene) then over (states 0) 255 white else white
 
 -- the colour of a pixel, by the states of the layers
 abbrev pub painted : Scene → (ℕ → State) → ℕ → ℕ → Rgb

@@ -2,11 +2,12 @@
 -- an interval of parts of 2^30 that the program computes, the wide kind all values within 2^-16 of E. At every other easing and
 -- input each kind knows the value. One definition serves all three: a loose slot has the least and the greatest value that the
 -- slot takes over the set of eased values, so its lower end is the greatest v to which all of them round, and its upper end the
--- greatest v to which some of them does. This is the project's own.
+-- greatest v to which some of them does. A channel is anything from 0 to 255 where the alpha is above 0 for some of the values and
+-- not for others. This is the project's own.
 use Rattle.std.specs.Prelude.{ℕ, ℤ, pos, negsuc, Bool, true, false, Option, Some, None, ◌≡◌, ◌*◌, ◌^◌, ◌+ℤ◌, ◌-ℤ◌, ◌*ℤ◌, ◌≤ℤ◌, ◌&&◌, nat_lt, nat_abs, if◌then◌else◌}
 use Rattle.std.specs.Int.{int_min, int_max, int_div_euclid}
 use Rattle.page_model.specs.declared.setup.Setup.{Setup}
-use Rattle.page_model.specs.declared.colour.Rgb.{Rgb}
+use Rattle.page_model.specs.declared.colour.Rgba.{Rgba}
 use Rattle.page_model.specs.declared.easing.Easing.{Easing}
 use Rattle.page_model.specs.declared.easing.Easing.TheVariants.{Linear, Steps, Cubic}
 use Rattle.page_model.specs.declared.property.Value.{Value}
@@ -15,8 +16,8 @@ use Rattle.page_model.specs.declared.scene.Layer.{Layer}
 use Rattle.page_model.specs.declared.scene.Scene.{Scene}
 use Rattle.page_model.specs.Curve.{Reaches, curve_height}
 use Rattle.page_model.specs.Fraction.{Fraction, zero_of_one}
-use Rattle.page_model.specs.LayerAt.{Course, still, moving, course_of, red_of, green_of, blue_of, alpha_of, length_of, visible_of}
-use Rattle.page_model.specs.Slot.{Slot, channel, alpha, position, extent, IsGreatestIn, twice_the_way, twice_to_cover}
+use Rattle.page_model.specs.LayerAt.{Course, still, moving, course_of, red_of, green_of, blue_of, cover_of, alpha_of, length_of, visible_of}
+use Rattle.page_model.specs.Slot.{Slot, Shade, cover, alpha, position, extent, IsGreatestIn, IsGreatestLevel, own_level, twice_the_way, twice_to_cover, fading, gain, due}
 
 pub data Kind : Type 0 where
   exact : Kind
@@ -83,6 +84,31 @@ pub record IsLoose (kind : Kind) (slot : Slot) (easing : Easing) (at : Fraction)
   pub least : IsGreatestIn slot (λ v. AllReach kind easing at (twice_the_way from to) (twice_to_cover slot from v)) loose.lo
   pub greatest : IsGreatestIn slot (λ v. SomeReach kind easing at (twice_the_way from to) (twice_to_cover slot from v)) loose.hi
 
+-- the alpha is gone on the way from one colour to another: for all values of the set, or for some
+abbrev pub AllGone : Kind → Easing → Fraction → Shade → Shade → Type 0
+AllGone kind easing at from to = AllReach kind easing at (fading from to) (pos from.alpha)
+
+abbrev pub SomeGone : Kind → Easing → Fraction → Shade → Shade → Type 0
+SomeGone kind easing at from to = SomeReach kind easing at (fading from to) (pos from.alpha)
+
+-- the least and the greatest channel on the way, where the alpha is above 0 for all values of the set
+pub record AreLevels (kind : Kind) (easing : Easing) (at : Fraction) (from to : Shade) (loose : Loose) : Type 0 where
+  pub least : IsGreatestLevel (λ v. AllReach kind easing at (gain from to v) (due from v)) loose.lo
+  pub greatest : IsGreatestLevel (λ v. SomeReach kind easing at (gain from to v) (due from v)) loose.hi
+
+-- one value as a loose one, and any channel
+abbrev pub one_value : ℤ → Loose
+one_value v = record { lo = v; hi = v }
+
+abbrev pub any_level : Loose
+any_level = record { lo = pos 0; hi = pos 255 }
+
+-- the loose value of a channel on the way from one colour to another
+pub record IsLooseChannel (kind : Kind) (easing : Easing) (at : Fraction) (from to : Shade) (loose : Loose) : Type 0 where
+  pub gone : AllGone kind easing at from to → loose ≡ one_value (pos 0)
+  pub mixed : SomeGone kind easing at from to → (AllGone kind easing at from to → ⊥) → loose ≡ any_level
+  pub left : (SomeGone kind easing at from to → ⊥) → AreLevels kind easing at from to loose
+
 -- whether something is so: surely, surely not, or for some values of the set and not for others
 pub data Sureness : Type 0 where
   surely : Sureness
@@ -110,13 +136,19 @@ IsLooseOn kind slot part (still x) loose = IsLoose kind slot Linear zero_of_one 
 IsLooseOn kind slot part (moving interval) loose =
     IsLoose kind slot interval.easing interval.distance (part interval.from) (part interval.to) loose
 
+-- the loose value that a channel takes on a course
+abbrev pub IsLooseChannelOn : Kind → (Value → Shade) → Course → Loose → Type 0
+IsLooseChannelOn kind part (still x) loose = loose ≡ one_value (own_level (part x))
+IsLooseChannelOn kind part (moving interval) loose =
+    IsLooseChannel kind interval.easing interval.distance (part interval.from) (part interval.to) loose
+
 abbrev pub IsSurelyShownOn : Kind → Course → Sureness → Type 0
 IsSurelyShownOn kind (still x) shown = IsShownSurely kind Linear zero_of_one (visible_of x) (visible_of x) shown
 IsSurelyShownOn kind (moving interval) shown =
     IsShownSurely kind interval.easing interval.distance (visible_of interval.from) (visible_of interval.to) shown
 
 -- a layer without a colour, which only a body may be, is surely not shown
-abbrev pub IsSurelyShownWith : Kind → Option Rgb → Course → Sureness → Type 0
+abbrev pub IsSurelyShownWith : Kind → Option Rgba → Course → Sureness → Type 0
 IsSurelyShownWith kind None course shown = shown ≡ surely_not
 IsSurelyShownWith kind (Some colour) course shown = IsSurelyShownOn kind course shown
 
@@ -125,6 +157,7 @@ pub record LooseState : Type 0 where
   pub red : Loose
   pub green : Loose
   pub blue : Loose
+  pub cover : Loose
   pub alpha : Loose
   pub shown : Sureness
   pub left : Loose
@@ -134,9 +167,10 @@ pub record LooseState : Type 0 where
 
 -- the state of a layer in a frame by a kind
 pub record IsLooseStateAt (kind : Kind) (scene : Scene) (setup : Setup) (frame : ℕ) (layer : Layer) (state : LooseState) : Type 0 where
-  pub is_red : IsLooseOn kind channel red_of (course_of scene setup frame layer Background) state.red
-  pub is_green : IsLooseOn kind channel green_of (course_of scene setup frame layer Background) state.green
-  pub is_blue : IsLooseOn kind channel blue_of (course_of scene setup frame layer Background) state.blue
+  pub is_red : IsLooseChannelOn kind red_of (course_of scene setup frame layer Background) state.red
+  pub is_green : IsLooseChannelOn kind green_of (course_of scene setup frame layer Background) state.green
+  pub is_blue : IsLooseChannelOn kind blue_of (course_of scene setup frame layer Background) state.blue
+  pub is_cover : IsLooseOn kind cover cover_of (course_of scene setup frame layer Background) state.cover
   pub is_alpha : IsLooseOn kind alpha alpha_of (course_of scene setup frame layer Opacity) state.alpha
   pub is_shown : IsSurelyShownWith kind layer.colour (course_of scene setup frame layer Visibility) state.shown
   pub is_left : IsLooseOn kind position length_of (course_of scene setup frame layer Left) state.left

@@ -4,7 +4,7 @@
 -- that follow are relations, since a curve's value is no fraction.
 use Rattle.std.specs.Prelude.{ℕ, ℤ, pos, Bool, true, false, Option, Some, None, ◌≡◌, ◌*◌, List, filter_map, slice_get, option_and_then, unwrap_or, if◌then◌else◌}
 use Rattle.page_model.specs.declared.setup.Setup.{Setup}
-use Rattle.page_model.specs.declared.colour.Rgb.{Rgb}
+use Rattle.page_model.specs.declared.colour.Rgba.{Rgba}
 use Rattle.page_model.specs.declared.easing.Easing.TheVariants.{Linear}
 use Rattle.page_model.specs.declared.animation.Anim.{Anim}
 use Rattle.page_model.specs.declared.keyframe.KeyframeSet.{KeyframeSet}
@@ -19,11 +19,11 @@ use Rattle.page_model.specs.Curve.{eased}
 use Rattle.page_model.specs.Fraction.{zero_of_one}
 use Rattle.page_model.specs.Keyframes.{Interval, interval_of, last_of}
 use Rattle.page_model.specs.Progress.{above_zero, progress_of}
-use Rattle.page_model.specs.Slot.{Slot, channel, alpha, position, extent, IsSlotValue, IsShownValue, slot_value, shown_value}
+use Rattle.page_model.specs.Slot.{Slot, Shade, cover, alpha, position, extent, IsSlotValue, IsChannelValue, IsShownValue, own_level, slot_value, channel_value, shown_value}
 
 -- the colour that stands for none: no layer without a colour is painted
-abbrev pub no_colour : Rgb
-no_colour = record { r = 0; g = 0; b = 0 }
+abbrev pub no_colour : Rgba
+no_colour = record { r = 0; g = 0; b = 0; a = 0 }
 
 -- the declared value of a property
 abbrev pub declared : Layer → Prop → Value
@@ -68,24 +68,25 @@ course_of scene setup frame layer prop =
     else course_by (declared layer prop)
     (last_of (filter_map (interval_at scene.sets setup frame prop (declared layer prop)) layer.anims))
 
--- the parts of a value: a channel of a colour, 255 times the thousandths of an opacity, the hundredths of a length
-abbrev pub red_of : Value → ℤ
-red_of (value.Colour c) = pos c.r
-red_of (value.Opacity thousandths) = pos 0
-red_of (value.Shown visible) = pos 0
-red_of (value.Length hundredths) = pos 0
+-- the parts of a value: the channels of a colour with its alpha, its alpha in parts of 255,000, 255 times the thousandths of an
+-- opacity, the hundredths of a length
+abbrev pub colour_in : Value → Rgba
+colour_in (value.Colour c) = c
+colour_in (value.Opacity thousandths) = no_colour
+colour_in (value.Shown visible) = no_colour
+colour_in (value.Length hundredths) = no_colour
 
-abbrev pub green_of : Value → ℤ
-green_of (value.Colour c) = pos c.g
-green_of (value.Opacity thousandths) = pos 0
-green_of (value.Shown visible) = pos 0
-green_of (value.Length hundredths) = pos 0
+abbrev pub red_of : Value → Shade
+red_of x = record { level = (colour_in x).r; alpha = (colour_in x).a }
 
-abbrev pub blue_of : Value → ℤ
-blue_of (value.Colour c) = pos c.b
-blue_of (value.Opacity thousandths) = pos 0
-blue_of (value.Shown visible) = pos 0
-blue_of (value.Length hundredths) = pos 0
+abbrev pub green_of : Value → Shade
+green_of x = record { level = (colour_in x).g; alpha = (colour_in x).a }
+
+abbrev pub blue_of : Value → Shade
+blue_of x = record { level = (colour_in x).b; alpha = (colour_in x).a }
+
+abbrev pub cover_of : Value → ℤ
+cover_of x = pos (colour_in x).a
 
 abbrev pub alpha_of : Value → ℤ
 alpha_of (value.Colour c) = pos 0
@@ -111,21 +112,29 @@ IsValueOn slot part (still x) v = IsSlotValue slot Linear zero_of_one (part x) (
 IsValueOn slot part (moving interval) v =
     IsSlotValue slot interval.easing interval.distance (part interval.from) (part interval.to) v
 
+-- the value that a channel takes on a course: without animation it is the colour's own, also where that is transparent
+abbrev pub IsChannelOn : (Value → Shade) → Course → ℤ → Type 0
+IsChannelOn part (still x) v = v ≡ own_level (part x)
+IsChannelOn part (moving interval) v =
+    IsChannelValue interval.easing interval.distance (part interval.from) (part interval.to) v
+
 abbrev pub IsShownOn : Course → Bool → Type 0
 IsShownOn (still x) shown = shown ≡ visible_of x
 IsShownOn (moving interval) shown =
     IsShownValue interval.easing interval.distance (visible_of interval.from) (visible_of interval.to) shown
 
 -- a layer without a colour, which only a body may be, isn't shown
-abbrev pub IsShownWith : Option Rgb → Course → Bool → Type 0
+abbrev pub IsShownWith : Option Rgba → Course → Bool → Type 0
 IsShownWith None course shown = shown ≡ false
 IsShownWith (Some colour) course shown = IsShownOn course shown
 
--- a layer in a frame: its colour and alpha from 0 to 255, whether it is shown, and its box in whole pixels
+-- a layer in a frame: the channels and the cover of its colour and the alpha of its opacity, each from 0 to 255, whether it is
+-- shown, and its box in whole pixels
 pub record State : Type 0 where
   pub red : ℕ
   pub green : ℕ
   pub blue : ℕ
+  pub cover : ℕ
   pub alpha : ℕ
   pub shown : Bool
   pub left : ℤ
@@ -135,9 +144,10 @@ pub record State : Type 0 where
 
 -- the exact state of a layer in a frame
 pub record IsStateAt (scene : Scene) (setup : Setup) (frame : ℕ) (layer : Layer) (state : State) : Type 0 where
-  pub is_red : IsValueOn channel red_of (course_of scene setup frame layer Background) (pos state.red)
-  pub is_green : IsValueOn channel green_of (course_of scene setup frame layer Background) (pos state.green)
-  pub is_blue : IsValueOn channel blue_of (course_of scene setup frame layer Background) (pos state.blue)
+  pub is_red : IsChannelOn red_of (course_of scene setup frame layer Background) (pos state.red)
+  pub is_green : IsChannelOn green_of (course_of scene setup frame layer Background) (pos state.green)
+  pub is_blue : IsChannelOn blue_of (course_of scene setup frame layer Background) (pos state.blue)
+  pub is_cover : IsValueOn cover cover_of (course_of scene setup frame layer Background) (pos state.cover)
   pub is_alpha : IsValueOn alpha alpha_of (course_of scene setup frame layer Opacity) (pos state.alpha)
   pub is_shown : IsShownWith layer.colour (course_of scene setup frame layer Visibility) state.shown
   pub is_left : IsValueOn position length_of (course_of scene setup frame layer Left) state.left
@@ -145,27 +155,33 @@ pub record IsStateAt (scene : Scene) (setup : Setup) (frame : ℕ) (layer : Laye
   pub is_width : IsValueOn extent length_of (course_of scene setup frame layer Width) state.width
   pub is_height : IsValueOn extent length_of (course_of scene setup frame layer Height) state.height
 
--- the same, computed: the value that a slot takes on a course, whether a layer is shown, and its state. They are the exact ones
--- where no easing is a curve.
+-- the same, computed: the value that a slot or a channel takes on a course, whether a layer is shown, and its state. They are the
+-- exact ones where no easing is a curve.
 abbrev pub value_on : Slot → (Value → ℤ) → Course → ℤ
 value_on slot part (still x) = slot_value slot (part x) (part x) zero_of_one
 value_on slot part (moving interval) =
     slot_value slot (part interval.from) (part interval.to) (eased interval.easing interval.distance)
+
+abbrev pub channel_on : (Value → Shade) → Course → ℤ
+channel_on part (still x) = own_level (part x)
+channel_on part (moving interval) =
+    channel_value (part interval.from) (part interval.to) (eased interval.easing interval.distance)
 
 abbrev pub shown_on : Course → Bool
 shown_on (still x) = visible_of x
 shown_on (moving interval) =
     shown_value (visible_of interval.from) (visible_of interval.to) (eased interval.easing interval.distance)
 
-abbrev pub shown_with : Option Rgb → Course → Bool
+abbrev pub shown_with : Option Rgba → Course → Bool
 shown_with None course = false
 shown_with (Some colour) course = shown_on course
 
 abbrev pub state_at : Scene → Setup → ℕ → Layer → State
 state_at scene setup frame layer = record {
-  red = above_zero (value_on channel red_of (course_of scene setup frame layer Background));
-  green = above_zero (value_on channel green_of (course_of scene setup frame layer Background));
-  blue = above_zero (value_on channel blue_of (course_of scene setup frame layer Background));
+  red = above_zero (channel_on red_of (course_of scene setup frame layer Background));
+  green = above_zero (channel_on green_of (course_of scene setup frame layer Background));
+  blue = above_zero (channel_on blue_of (course_of scene setup frame layer Background));
+  cover = above_zero (value_on cover cover_of (course_of scene setup frame layer Background));
   alpha = above_zero (value_on alpha alpha_of (course_of scene setup frame layer Opacity));
   shown = shown_with layer.colour (course_of scene setup frame layer Visibility);
   left = value_on position length_of (course_of scene setup frame layer Left);

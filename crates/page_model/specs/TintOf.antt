@@ -1,13 +1,13 @@
 -- The tint of a pixel: the least and the greatest colour that it may have, channel by channel, where the states of the layers
--- are known loosely. Boxes are painted as in `Colour`, over both ends of source, alpha and backdrop; where a box may or may not
--- be shown there, the tint holds what is there with it and without it. This is the project's own.
+-- are known loosely. Body and boxes are painted as in `Colour`, over both ends of source, combined alpha and backdrop; where a box
+-- may or may not be shown there, the tint holds what is there with it and without it. This is the project's own.
 use Rattle.std.specs.Prelude.{ℕ, pos, Some, ◌≡◌, ◌+◌, ◌≤◌, min, max, ◌+ℤ◌, fold, slice_get, is_some, int_le, int_lt, if◌then◌else◌}
 use Rattle.page_model.specs.declared.setup.Setup.{Setup}
 use Rattle.page_model.specs.declared.colour.Rgb.{Rgb}
 use Rattle.page_model.specs.declared.colour.Tint.{Tint}
 use Rattle.page_model.specs.declared.scene.Layer.{Layer}
 use Rattle.page_model.specs.declared.scene.Scene.{Scene}
-use Rattle.page_model.specs.Colour.{blended, body_colour}
+use Rattle.page_model.specs.Colour.{blended, combined, body_colour}
 use Rattle.page_model.specs.Enclosure.{Kind, Loose, LooseState, LooseRun, Sureness, surely, surely_not, maybe, IsLooseStateAt}
 use Rattle.page_model.specs.Progress.{above_zero}
 use Rattle.page_model.specs.Red.{white}
@@ -79,12 +79,20 @@ green_span tint = record { lo = tint.lo.g; hi = tint.hi.g }
 abbrev pub blue_span : Tint → Span
 blue_span tint = record { lo = tint.lo.b; hi = tint.hi.b }
 
--- a state painted over a tint
-abbrev pub tint_over : LooseState → Tint → Tint
-tint_over state backdrop =
-    tint_by (blended_span (span_of state.red) (span_of state.alpha) (red_span backdrop))
-    (blended_span (span_of state.green) (span_of state.alpha) (green_span backdrop))
-    (blended_span (span_of state.blue) (span_of state.alpha) (blue_span backdrop))
+-- the ends of cover and alpha together
+abbrev pub combined_span : Span → Span → Span
+combined_span cover alpha = record { lo = combined cover.lo alpha.lo; hi = combined cover.hi alpha.hi }
+
+-- a state's colour painted over a tint, by a combined alpha
+abbrev pub tint_by_alpha : LooseState → Span → Tint → Tint
+tint_by_alpha state alpha backdrop =
+    tint_by (blended_span (span_of state.red) alpha (red_span backdrop))
+    (blended_span (span_of state.green) alpha (green_span backdrop))
+    (blended_span (span_of state.blue) alpha (blue_span backdrop))
+
+-- a state painted over a tint, by an alpha beside the colour's own cover
+abbrev pub tint_over : LooseState → Span → Tint → Tint
+tint_over state alpha backdrop = tint_by_alpha state (combined_span (span_of state.cover) alpha) backdrop
 
 abbrev pub tint_hull : Tint → Tint → Tint
 tint_hull a b =
@@ -98,18 +106,20 @@ painted_where maybe above backdrop = tint_hull above backdrop
 
 abbrev pub tint_box : (ℕ → LooseState) → ℕ → ℕ → Tint → ℕ → Tint
 tint_box states column row backdrop box =
-    painted_where (both (states box).shown (covers_surely (states box) column row)) (tint_over (states box) backdrop) backdrop
+    painted_where (both (states box).shown (covers_surely (states box) column row))
+    (tint_over (states box) (span_of (states box).alpha) backdrop) backdrop
 
 -- one colour as a tint
 abbrev pub single : Rgb → Tint
 single colour = record { lo = colour; hi = colour }
 
--- the tint before any box is painted: the body's where it has a colour, whatever its alpha and whether it is shown
+abbrev pub full_alpha : Span
+full_alpha = record { lo = 255; hi = 255 }
+
+-- the tint before any box is painted: the body's over white where it has a colour, whatever its opacity and whether it is shown
 abbrev pub tint_ground : Scene → (ℕ → LooseState) → Tint
 tint_ground scene states =
-    if is_some (body_colour scene)
-    then tint_by (span_of (states 0).red) (span_of (states 0).green) (span_of (states 0).blue)
-    else single white
+    if is_some (body_colour scene) then tint_over (states 0) full_alpha (single white) else single white
 
 -- the tint of a pixel, by the states of the layers
 abbrev pub tint_of : Scene → (ℕ → LooseState) → ℕ → ℕ → Tint

@@ -1,10 +1,11 @@
 -- What holds of each scene that is judged: numbers in their limits, places that exist, lists in order. Lengths are in hundredths
--- of a pixel, opacity in thousandths, times in ms, offsets in hundredths of a percent, counts and curve points in thousandths.
+-- of a pixel, opacity in thousandths, a colour's alpha in parts of 255,000, times in ms, offsets in hundredths of a percent,
+-- counts and curve points in thousandths.
 use Rattle.std.specs.Prelude.{ℕ, ℤ, pos, neg_ℤ, false, true, ◌≡◌, ◌⊎◌, ◌↔◌, ◌<◌, ◌≤◌, ◌≤ℤ◌, ◌<ℤ◌, List, length, slice_get, slice_index, Some, IsSome, IfSome, All, Contains}
 use Rattle.page_model.specs.declared.animation.Anim.{Anim}
 use Rattle.page_model.specs.declared.animation.Count.{Count}
 use Rattle.page_model.specs.declared.animation.Count.TheVariants.{Times, Infinite}
-use Rattle.page_model.specs.declared.colour.Rgb.{Rgb}
+use Rattle.page_model.specs.declared.colour.Rgba.{Rgba}
 use Rattle.page_model.specs.declared.easing.Jump.{Jump}
 use Rattle.page_model.specs.declared.easing.Jump.TheVariants.{Start, End, Neither, Both}
 use Rattle.page_model.specs.declared.easing.Easing.{Easing}
@@ -25,11 +26,12 @@ pub record IsBetween (least greatest v : ℤ) : Type 0 where
   pub at_least : least ≤ℤ v
   pub at_most : v ≤ℤ greatest
 
--- a colour has channels from 0 to 255
-pub record IsColour (c : Rgb) : Type 0 where
+-- a colour has channels from 0 to 255, and an alpha from 0 to 255,000
+pub record IsColour (c : Rgba) : Type 0 where
   pub red : c.r ≤ 255
   pub green : c.g ≤ 255
   pub blue : c.b ≤ 255
+  pub alpha : c.a ≤ 255000
 
 -- left and top from -8192 to 8192 px, width and height from 0 to 8192 px
 abbrev pub IsPosition : ℤ → Type 0

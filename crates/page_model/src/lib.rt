@@ -26,7 +26,7 @@ mod setup;
 mod witness;
 
 pub use animation::{Anim, Count, Direction, Fill};
-pub use colour::{Rgb, Tint};
+pub use colour::{Rgb, Rgba, Tint};
 pub use easing::{Easing, Jump};
 pub use element::{Element, PageText, Tag};
 pub use keyframe::{Keyframe, KeyframeSet};

@@ -1,5 +1,5 @@
 // The properties that an animation may change, and their values.
-use crate::colour::Rgb;
+use crate::colour::Rgba;
 
 /// A property that keyframes may name.
 #[derive(Clone, Copy, Debug, PartialEq, Eq)]
@@ -16,8 +16,8 @@ pub enum Prop {
 /// A value of such a property.
 #[derive(Clone, Copy, Debug, PartialEq, Eq)]
 pub enum Value {
-    /// A colour, of `Background`.
-    Colour(Rgb),
+    /// A colour with its alpha, of `Background`.
+    Colour(Rgba),
     /// Thousandths from 0 to 1000, of `Opacity`.
     Opacity(u16),
     /// Whether the box is visible, of `Visibility`.

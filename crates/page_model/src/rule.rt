@@ -1,6 +1,6 @@
 // The rules of a style sheet.
 use crate::animation::{Count, Direction, Fill};
-use crate::colour::Rgb;
+use crate::colour::Rgba;
 use crate::easing::Easing;
 use crate::list::List;
 use crate::name::Name;
@@ -13,8 +13,8 @@ pub struct Compound {
     pub classes: List<Name>,
 }
 
-/// A longhand property with its declared value: lengths in hundredths of a pixel, opacity in thousandths, times
-/// in ms, counts and curve points in thousandths. A name is `None` for the keyword `none`.
+/// A longhand property with its declared value: lengths in hundredths of a pixel, opacity in thousandths, a
+/// colour's alpha in parts of 255,000, times in ms, counts and curve points in thousandths. A name is `None` for the keyword `none`.
 #[derive(Drop)]
 pub enum Longhand {
     Position,
@@ -22,7 +22,7 @@ pub enum Longhand {
     Top(i32),
     Width(i32),
     Height(i32),
-    Colour(Rgb),
+    Colour(Rgba),
     Opacity(u16),
     Visibility(bool),
     ZIndex(i32),

@@ -1,6 +1,6 @@
 // A page as it is judged: its layers, their paint order and the keyframe sets.
 use crate::animation::Anim;
-use crate::colour::Rgb;
+use crate::colour::Rgba;
 use crate::keyframe::KeyframeSet;
 use crate::list::List;
 
@@ -23,7 +23,7 @@ pub struct Held {
 /// nothing; each box has one.
 #[derive(Drop)]
 pub struct Layer {
-    pub colour: Option<Rgb>,
+    pub colour: Option<Rgba>,
     pub opacity: u16,
     pub shown: bool,
     pub left: i32,

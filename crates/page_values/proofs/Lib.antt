@@ -1,3 +1,4 @@
+mod AlphaLemmas
 mod CellLemmas
 mod LightTable
 mod PageLemmas

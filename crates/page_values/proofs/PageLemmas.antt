@@ -9,7 +9,7 @@ use Rattle.page_model.specs.declared.scene.Layer.{Layer}
 use Rattle.page_model.specs.Cascade.{Candidate, Winners, AreWinners, IsWinning, IsElement, Sources, HasFault, HasLayer, IsScene, IsFirstFault, fault_of, not_placed, layer_of, animations_in, is_beaten_by, by_attribute, by_selector, candidates_of, of_property}
 use Rattle.page_model.specs.ValidScene.{IsPaintOrder}
 use Rattle.page_values.specs.CascadeValues.{compound, element}
-use Rattle.time_values.specs.Examples.{grey}
+use Rattle.page_values.specs.Colours.{opaque_grey}
 use Rattle.page_values.specs.PageValues.{plainly, body_rules, without_height, whole_box, sources_with, the_box, the_scene}
 use Rattle.page_values.specs.SceneValues.{body}
 use Rattle.page_values.proofs.WeightLemmas.{winner-exists}
@@ -41,7 +41,7 @@ the_body = element Body None []
 
 -- the body's two colours, of which the later one wins
 abbrev body_colour : ℕ → ℕ → Candidate
-body_colour level place = by_selector (plainly (Colour (grey level)) place) (compound (Some (codes "body")) [] [])
+body_colour level place = by_selector (plainly (Colour (opaque_grey level)) place) (compound (Some (codes "body")) [] [])
 
 later_won : (w : Option Candidate) → IsWinning (body_colour 1 40 ∷ (body_colour 2 80 ∷ [])) w → w ≡ Some (body_colour 2 80)
 later_won None h = cc
@@ -103,7 +103,7 @@ low-fault winners are =
     let w4 = none_won (winners 4) (are 4) in
     rw (w0, w1, w2, w3, w4) refl
 
-body-layer : (winners : Winners) → AreWinners body_rules the_body [] winners → body (Some (grey 2)) false [] ≡ layer_of winners (animations_in Whole winners)
+body-layer : (winners : Winners) → AreWinners body_rules the_body [] winners → body (Some (opaque_grey 2)) false [] ≡ layer_of winners (animations_in Whole winners)
 body-layer winners are =
     let w1 = none_won (winners 1) (are 1) in
     let w2 = none_won (winners 2) (are 2) in
@@ -152,7 +152,7 @@ no_fault (suc (suc number)) within = absurd (omega arith)
 layers : (number : ℕ) (layer : Layer) → slice_get the_scene.layers number ≡ Some layer → HasLayer Whole number layer
 layers zero layer there el winners is =
     let k = known Whole 0 el winners the_body [] refl refl is in
-    let same : body (Some (grey 2)) false [] ≡ layer = cc in
+    let same : body (Some (opaque_grey 2)) false [] ≡ layer = cc in
     sym same ∙ body-layer winners k.1
 layers (suc zero) layer there el winners is =
     let k = known Whole 1 el winners the_div whole_box refl refl is in

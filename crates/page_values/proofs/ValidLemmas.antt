@@ -4,13 +4,13 @@ use Rattle.std.specs.Prelude.{Some, IsSome, slice_get}
 use Rattle.std.proofs.lemmas.List.Elements.{All-nil, All-cons}
 use Rattle.page_model.specs.declared.scene.Layer.{Layer}
 use Rattle.page_model.specs.ValidScene.{IsBody, IsLayer, IsValid}
-use Rattle.time_values.specs.Examples.{grey}
+use Rattle.page_values.specs.Colours.{opaque_grey}
 use Rattle.page_values.specs.PageValues.{the_box, the_scene}
 use Rattle.page_values.specs.SceneValues.{body}
 use Rattle.page_values.proofs.PageLemmas.{order}
 
 abbrev the_body : Layer
-the_body = body (Some (grey 2)) false []
+the_body = body (Some (opaque_grey 2)) false []
 
 body_layer : IsLayer 0 the_body
 body_layer = search rules

@@ -19,7 +19,7 @@ use Rattle.page_model.specs.declared.rule.Decl.{Decl}
 use Rattle.page_model.specs.declared.rule.Longhand.TheVariants.{Colour, Opacity, Names, Durations}
 use Rattle.page_model.specs.declared.rule.Rule.{Rule}
 use Rattle.page_model.specs.Cascade.{Candidate, Weight, Winners, matches, is_beaten_by, by_selector, by_attribute, candidates_of, of_property, IsWinning, set_meant, animations_won}
-use Rattle.time_values.specs.Examples.{rgb}
+use Rattle.page_values.specs.Colours.{opaque_grey}
 
 -- a compound selector: a tag or none, ids and classes
 abbrev pub compound : Option (List ℕ) → List (List ℕ) → List (List ℕ) → Compound
@@ -63,7 +63,7 @@ pub record WeightValues : Type 0 where
 
 -- declarations of a colour, and of another property
 abbrev colour : ℕ → Bool → ℕ → Decl
-colour level important place = record { longhand = Colour (rgb level level level); important = important; place = place }
+colour level important place = record { longhand = Colour (opaque_grey level); important = important; place = place }
 
 -- span { background-color: 1 !important } .a, #i { background-color: 2 } div { background-color: 3 !important }
 abbrev pub the_rules : List Rule

@@ -6,25 +6,22 @@ use Rattle.std.specs.Prelude.{ℕ, zero, suc, ℤ, pos, neg_ℤ, false, None, �
 use Rattle.page_model.specs.declared.setup.Setup.{Setup}
 use Rattle.page_model.specs.declared.scene.Scene.{Scene}
 use Rattle.page_model.specs.Cells.{AreCuts, cells_between, work_limit}
-use Rattle.page_model.specs.Enclosure.{Loose, LooseState, LooseRun, surely}
+use Rattle.page_model.specs.Enclosure.{LooseState, LooseRun, one_value, surely}
 use Rattle.page_values.specs.SceneValues.{body, black_box}
-
--- a number that is known
-abbrev pub just : ℤ → Loose
-just v = record { lo = v; hi = v }
 
 -- a black box whose place and size are known
 abbrev pub box_at : ℤ → ℤ → ℤ → ℤ → LooseState
 box_at left top width height = record {
-  red = just (pos 0);
-  green = just (pos 0);
-  blue = just (pos 0);
-  alpha = just (pos 255);
+  red = one_value (pos 0);
+  green = one_value (pos 0);
+  blue = one_value (pos 0);
+  cover = one_value (pos 255);
+  alpha = one_value (pos 255);
   shown = surely;
-  left = just left;
-  top = just top;
-  width = just width;
-  height = just height;
+  left = one_value left;
+  top = one_value top;
+  width = one_value width;
+  height = one_value height;
 }
 
 -- the body and the three boxes, the last of which has a height of its own in each frame

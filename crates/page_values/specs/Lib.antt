@@ -1,6 +1,8 @@
+pub mod AlphaValues
 pub mod CascadeValues
 pub mod CellValues
 pub mod ChainValues
+pub mod Colours
 pub mod LightValues
 pub mod PageValues
 pub mod RedValues

@@ -11,7 +11,7 @@ use Rattle.page_model.specs.declared.scene.Scene.{Scene}
 use Rattle.page_model.specs.Cascade.{Sources, IsScene, IsFirstFault, not_placed}
 use Rattle.page_model.specs.ValidScene.{IsValid}
 use Rattle.page_values.specs.CascadeValues.{compound, element}
-use Rattle.time_values.specs.Examples.{grey}
+use Rattle.page_values.specs.Colours.{opaque_grey}
 use Rattle.page_values.specs.SceneValues.{body, held}
 
 -- a declaration that isn't important
@@ -22,7 +22,7 @@ plainly longhand place = record { longhand = longhand; important = false; place 
 abbrev body_rule : ℕ → ℕ → Rule
 body_rule level place = record {
   selectors = compound (Some (codes "body")) [] [] ∷ [];
-  decls = plainly (Colour (grey level)) place ∷ [];
+  decls = plainly (Colour (opaque_grey level)) place ∷ [];
 }
 
 abbrev pub body_rules : List Rule
@@ -34,7 +34,7 @@ without_height =
     plainly Position 200
     ∷ (plainly (Left (pos 1000)) 210
     ∷ (plainly (Top (neg_ℤ (pos 2000))) 220
-    ∷ (plainly (Width (pos 3000)) 230 ∷ (plainly (Colour (grey 3)) 240 ∷ (plainly (ZIndex (pos 5)) 250 ∷ [])))))
+    ∷ (plainly (Width (pos 3000)) 230 ∷ (plainly (Colour (opaque_grey 3)) 240 ∷ (plainly (ZIndex (pos 5)) 250 ∷ [])))))
 
 -- the same with height: 40px in front
 abbrev pub whole_box : List Decl
@@ -52,7 +52,7 @@ sources_with attribute = record {
 
 abbrev pub the_box : Layer
 the_box = record {
-  colour = Some (grey 3);
+  colour = Some (opaque_grey 3);
   opacity = 1000;
   shown = true;
   left = pos 1000;
@@ -65,7 +65,7 @@ the_box = record {
 }
 
 abbrev pub the_scene : Scene
-the_scene = record { layers = body (Some (grey 2)) false [] ∷ (the_box ∷ []); order = 1 ∷ []; sets = [] }
+the_scene = record { layers = body (Some (opaque_grey 2)) false [] ∷ (the_box ∷ []); order = 1 ∷ []; sets = [] }
 
 pub record PageValues : Type 0 where
   pub scene : IsScene (sources_with whole_box) the_scene

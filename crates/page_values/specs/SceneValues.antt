@@ -5,7 +5,7 @@ use Rattle.page_model.specs.declared.animation.Anim.{Anim}
 use Rattle.page_model.specs.declared.animation.Count.TheVariants.{Times, Infinite}
 use Rattle.page_model.specs.declared.animation.Direction.TheVariants.{Normal, Alternate}
 use Rattle.page_model.specs.declared.animation.Fill.TheVariants.{Absent, Forwards}
-use Rattle.page_model.specs.declared.colour.Rgb.{Rgb}
+use Rattle.page_model.specs.declared.colour.Rgba.{Rgba}
 use Rattle.page_model.specs.declared.easing.Easing.TheVariants.{Steps}
 use Rattle.page_model.specs.declared.easing.Jump.TheVariants.{Neither}
 use Rattle.page_model.specs.declared.keyframe.Keyframe.{Keyframe}
@@ -19,6 +19,7 @@ use Rattle.page_model.specs.declared.scene.Layer.{Layer}
 use Rattle.page_model.specs.declared.scene.Scene.{Scene}
 use Rattle.page_model.specs.Colour.{painted}
 use Rattle.page_model.specs.LayerAt.{State, IsStateAt}
+use Rattle.page_values.specs.Colours.{opaque_grey}
 use Rattle.time_values.specs.Examples.{at_rate, animation, grey}
 
 -- no property is important, or the background alone
@@ -34,7 +35,7 @@ held background = record {
 }
 
 -- a body, of a colour or without one
-abbrev pub body : Option Rgb → Bool → List Anim → Layer
+abbrev pub body : Option Rgba → Bool → List Anim → Layer
 body colour important anims = record {
   colour = colour;
   opacity = 1000;
@@ -51,7 +52,7 @@ body colour important anims = record {
 -- a black box of 20 by 20 pixels
 abbrev pub black_box : ℤ → ℤ → ℕ → List Anim → Layer
 black_box left top opacity anims = record {
-  colour = Some (grey 0);
+  colour = Some (opaque_grey 0);
   opacity = opacity;
   shown = true;
   left = left;
@@ -77,6 +78,7 @@ body_state = record {
   red = 0;
   green = 0;
   blue = 0;
+  cover = 0;
   alpha = 255;
   shown = false;
   left = pos 0;
@@ -90,6 +92,7 @@ box_state alpha left top = record {
   red = 0;
   green = 0;
   blue = 0;
+  cover = 255;
   alpha = alpha;
   shown = true;
   left = left;
@@ -134,11 +137,11 @@ pub record SlidingBox : Type 0 where
 abbrev pub black_to_white : KeyframeSet
 black_to_white = record {
   frames =
-      keyframe 0 prop.Background (value.Colour (grey 0)) ∷ (keyframe 10000 prop.Background (value.Colour (grey 0xff)) ∷ []);
+      keyframe 0 prop.Background (value.Colour (opaque_grey 0)) ∷ (keyframe 10000 prop.Background (value.Colour (opaque_grey 0xff)) ∷ []);
 }
 
 abbrev pub lamp_body : Bool → Anim → Layer
-lamp_body important anim = body (Some (grey 0)) important (anim ∷ [])
+lamp_body important anim = body (Some (opaque_grey 0)) important (anim ∷ [])
 
 abbrev pub lamp : Bool → Anim → Scene
 lamp important anim = record { layers = lamp_body important anim ∷ []; order = []; sets = black_to_white ∷ [] }
@@ -148,6 +151,7 @@ lamp_state level = record {
   red = level;
   green = level;
   blue = level;
+  cover = 255;
   alpha = 255;
   shown = true;
   left = pos 0;

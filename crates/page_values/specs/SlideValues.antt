@@ -9,8 +9,8 @@ use Rattle.page_model.specs.declared.property.Value.TheVariants as value
 use Rattle.page_model.specs.declared.scene.Layer.{Layer}
 use Rattle.page_model.specs.declared.scene.Scene.{Scene}
 use Rattle.page_model.specs.Cells.{AreCuts, IsLooseRunBelow, cells_between}
-use Rattle.page_model.specs.Enclosure.{LooseState, LooseRun, own, surely_not}
-use Rattle.page_values.specs.CellValues.{box_at, just}
+use Rattle.page_model.specs.Enclosure.{LooseState, LooseRun, one_value, own, surely_not}
+use Rattle.page_values.specs.CellValues.{box_at}
 use Rattle.time_values.specs.Examples.{animation, at_rate}
 use Rattle.page_values.specs.SceneValues.{black_box, keyframe, with_box}
 
@@ -23,15 +23,16 @@ slow_slide = with_box slow_box (record { frames = keyframe 10000 prop.Left (valu
 -- the states of both layers: the body isn't shown, and the box is as far right as the frame's number
 abbrev pub still_body : LooseState
 still_body = record {
-  red = just (pos 0);
-  green = just (pos 0);
-  blue = just (pos 0);
-  alpha = just (pos 255);
+  red = one_value (pos 0);
+  green = one_value (pos 0);
+  blue = one_value (pos 0);
+  cover = one_value (pos 0);
+  alpha = one_value (pos 255);
   shown = surely_not;
-  left = just (pos 0);
-  top = just (pos 0);
-  width = just (pos 0);
-  height = just (pos 0);
+  left = one_value (pos 0);
+  top = one_value (pos 0);
+  width = one_value (pos 0);
+  height = one_value (pos 0);
 }
 
 abbrev pub slide_run : LooseRun

@@ -25,6 +25,6 @@ pub use cell_values::{sliding_box_cuts, three_boxes_cut};
 pub use chain_values::seventeen_greys;
 pub use light_values::{luma_values, rise_thresholds};
 pub use red_values::{chromaticity_values, far_edge, red_changes, saturated_edge};
-pub use scene_values::{half_box, lamp_states, sliding_box};
+pub use scene_values::{alpha_values, half_box, lamp_states, sliding_box};
 pub use small_page::page_has_scene;
 pub use winner_laws::winners_exist;

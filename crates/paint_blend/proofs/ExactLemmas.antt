@@ -8,12 +8,13 @@ use borrow.Author.Differences.{lt-true, lt-false}
 use Rattle.page_model.specs.declared.colour.Rgb.{Rgb}
 use Rattle.page_model.specs.declared.colour.Tint.{Tint}
 use Rattle.page_model.specs.declared.scene.Scene.{Scene}
-use Rattle.page_model.specs.Colour.{blended, body_colour, covers, ground, over, paint_box, painted, spans}
-use Rattle.page_model.specs.Enclosure.{LooseState}
+use Rattle.page_model.specs.Colour.{blended, body_colour, combined, covers, ground, over, paint_box, painted, spans}
+use Rattle.page_model.specs.Enclosure.{LooseState, one_value}
 use Rattle.page_model.specs.LayerAt.{State}
-use Rattle.page_model.specs.TintOf.{Span, blended_span, both, painted_where, single, spans_surely, tint_box, tint_ground, tint_of, tint_over}
+use Rattle.page_model.specs.TintOf.{Span, blended_span, both, full_alpha, painted_where, single, span_of, spans_surely, tint_box, tint_ground, tint_of, tint_over}
+use Rattle.page_model.specs.Red.{white}
 use Rattle.page_model.specs.ValidScene.{IsValid}
-use Rattle.frame_state.specs.States.{known, one_value, sure_of}
+use Rattle.frame_state.specs.States.{known, sure_of}
 use Rattle.paint_blend.specs.Paint.{AreKnown}
 
 -- one number as a span
@@ -38,11 +39,11 @@ blended_span-point source alpha backdrop = λ i. record {
   hi = greatest-itself (blended source alpha backdrop) i;
 }
 
-over-known : (state : State) (c : Rgb) → tint_over (known state) (single c) ≡ single (over state c)
-over-known state c =
-    let red = blended_span-point state.red state.alpha c.r in
-    let green = blended_span-point state.green state.alpha c.g in
-    let blue = blended_span-point state.blue state.alpha c.b in
+over-known : (state : State) (alpha : ℕ) (c : Rgb) → tint_over (known state) (point alpha) (single c) ≡ single (over state alpha c)
+over-known state alpha c =
+    let red = blended_span-point state.red (combined state.cover alpha) c.r in
+    let green = blended_span-point state.green (combined state.cover alpha) c.g in
+    let blue = blended_span-point state.blue (combined state.cover alpha) c.b in
     λ i. record {
       lo = record { r = (red i).lo; g = (green i).lo; b = (blue i).lo };
       hi = record { r = (red i).hi; g = (green i).hi; b = (blue i).hi };
@@ -81,23 +82,23 @@ painted-known false above backdrop = refl
 -- a box, the ground, and all boxes
 box-known : (state : State) (column row : ℕ) (c : Rgb)
     → painted_where (both (sure_of state.shown) (both (spans_surely (one_value state.left) (one_value state.width) column) (spans_surely (one_value state.top) (one_value state.height) row)))
-    (tint_over (known state) (single c)) (single c)
-    ≡ single (if state.shown && covers state column row then over state c else c)
+    (tint_over (known state) (point state.alpha) (single c)) (single c)
+    ≡ single (if state.shown && covers state column row then over state state.alpha c else c)
 box-known state column row c =
     rw (
       spans-known state.left state.width column,
       spans-known state.top state.height row,
       both-known (spans state.left state.width column) (spans state.top state.height row),
       both-known state.shown (covers state column row),
-      over-known state c,
+      over-known state state.alpha c,
     )
-    (painted-known (state.shown && covers state column row) (over state c) c)
+    (painted-known (state.shown && covers state column row) (over state state.alpha c) c)
 
 tint_box-known : (loose : ℕ → LooseState) (states : ℕ → State) (column row : ℕ) (c : Rgb) (number : ℕ) → loose number ≡ known (states number)
     → tint_box loose column row (single c) number ≡ single (paint_box states column row c number)
 tint_box-known loose states column row c number is =
     ap (λ (state : LooseState). painted_where (both state.shown (both (spans_surely state.left state.width column) (spans_surely state.top state.height row)))
-    (tint_over state (single c)) (single c)) is
+    (tint_over state (span_of state.alpha) (single c)) (single c)) is
     ∙ box-known (states number) column row c
 
 boxes-known : (loose : ℕ → LooseState) (states : ℕ → State) (column row : ℕ) (order : List ℕ) (c : Rgb)
@@ -113,7 +114,7 @@ ground-known : (scene : Scene) (loose : ℕ → LooseState) (states : ℕ → St
     → tint_ground scene loose ≡ single (ground scene states)
 ground-known scene loose states is =
     elim (cases_Bool (is_some (body_colour scene))) [
-      | inl coloured ↦ rw (coloured, is) refl
+      | inl coloured ↦ rw (coloured, is) (over-known (states 0) 255 white)
       | inr bare ↦ rw bare refl
     ]
 

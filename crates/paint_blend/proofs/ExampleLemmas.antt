@@ -29,7 +29,7 @@ fades-valid = record {
 
 body-layer : IsLayer 1 the_body
 body-layer = record {
-  colour = record { red = omega arith; green = omega arith; blue = omega arith };
+  colour = record { red = omega arith; green = omega arith; blue = omega arith; alpha = omega arith };
   opacity = omega arith;
   left = between (neg_ℤ (pos 819200)) (pos 819200) (pos 0) (omega (arith, ints)) (omega (arith, ints));
   top = between (neg_ℤ (pos 819200)) (pos 819200) (pos 0) (omega (arith, ints)) (omega (arith, ints));
@@ -42,7 +42,7 @@ body-layer = record {
 
 box-layer : IsLayer 1 the_box
 box-layer = record {
-  colour = record { red = omega arith; green = omega arith; blue = omega arith };
+  colour = record { red = omega arith; green = omega arith; blue = omega arith; alpha = omega arith };
   opacity = omega arith;
   left = between (neg_ℤ (pos 819200)) (pos 819200) (pos 200) (omega (arith, ints)) (omega (arith, ints));
   top = between (neg_ℤ (pos 819200)) (pos 819200) (pos 400) (omega (arith, ints)) (omega (arith, ints));

@@ -19,7 +19,7 @@ not_held = record { background = false; opacity = false; visibility = false; lef
 
 abbrev pub the_body : Layer
 the_body = record {
-  colour = Some (record { r = 94; g = 236; b = 84 });
+  colour = Some (record { r = 94; g = 236; b = 84; a = 255000 });
   opacity = 1000;
   shown = true;
   left = pos 0;
@@ -45,7 +45,7 @@ fades = record {
 
 abbrev pub the_box : Layer
 the_box = record {
-  colour = Some (record { r = 112; g = 48; b = 126 });
+  colour = Some (record { r = 112; g = 48; b = 126; a = 255000 });
   opacity = 1000;
   shown = true;
   left = pos 200;

@@ -7,7 +7,7 @@ use Rattle.page_model.specs.declared.setup.Setup.{Setup}
 use Rattle.page_model.specs.Enclosure.{LooseState}
 use Rattle.page_model.specs.LayerAt.{IsStateAt, State, state_at}
 use Rattle.page_model.specs.TintOf as definition
-use Rattle.page_model.specs.TintOf.{both, covers_surely, painted_where, tint_over}
+use Rattle.page_model.specs.TintOf.{both, covers_surely, painted_where, span_of, tint_over}
 use Rattle.frame_state.specs.States.{IsInSlots, known}
 use Rattle.paint_blend.specs.declared.span.Span.{Span}
 
@@ -17,7 +17,7 @@ span_as span = record { lo = span.lo; hi = span.hi }
 -- a state painted where it is shown and covers the pixel
 abbrev pub box_over : LooseState → ℕ → ℕ → Tint → Tint
 box_over state column row backdrop =
-    painted_where (both state.shown (covers_surely state column row)) (tint_over state backdrop) backdrop
+    painted_where (both state.shown (covers_surely state column row)) (tint_over state (span_of state.alpha) backdrop) backdrop
 
 -- the states of the layers with a colour are in their slots
 abbrev pub AreReady : Scene → (ℕ → LooseState) → Type 0
@@ -39,6 +39,7 @@ no_state = record {
   red = 0;
   green = 0;
   blue = 0;
+  cover = 0;
   alpha = 0;
   shown = false;
   left = pos 0;

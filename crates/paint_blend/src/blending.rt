@@ -1,9 +1,8 @@
 // Channels over channels.
 ghost use Rattle.std.specs.Prelude.{◌≡◌};
 ghost use Rattle.page_model.specs.Colour as colours;
-ghost use Rattle.page_model.specs.Slot as slots;
 ghost use Rattle.page_model.specs.TintOf as definition;
-ghost use Rattle.frame_state.specs.States.{IsInSlot, loose_as};
+ghost use Rattle.frame_state.specs.States.{IsInSlot, eight_bits, loose_as};
 ghost use Rattle.paint_blend.specs.Paint.{span_as};
 
 use crate::span::Span;
@@ -15,6 +14,24 @@ fn blended(source: u8, alpha: u8, backdrop: u8) -> u8
 {
     let sum = source as u32 * alpha as u32 + backdrop as u32 * (255 - alpha as u32) + 127;
     (sum / 255) as u8
+}
+
+// A cover and an alpha together, rounded half up.
+fn combined(cover: u8, alpha: u8) -> u8
+    ensures { result ≡ colours.combined cover alpha }
+{
+    let product = cover as u32 * alpha as u32 + 127;
+    (product / 255) as u8
+}
+
+// The ends of both together.
+pub fn combined_span(cover: Span, alpha: Span) -> Span
+    ensures { span_as result ≡ definition.combined_span (span_as cover) (span_as alpha) }
+{
+    Span {
+        lo: combined(cover.lo, alpha.lo),
+        hi: combined(cover.hi, alpha.hi),
+    }
 }
 
 // A span over another, by one alpha: over the two ends of both.
@@ -56,9 +73,9 @@ pub fn blended_span(source: Span, alpha: Span, backdrop: Span) -> Span
     hull(first, blended_at(source, alpha.hi, backdrop))
 }
 
-// A loose channel, or alpha, as a span.
+// A loose channel, cover or alpha as a span.
 pub fn span_of(loose: Loose) -> Span
-    requires { IsInSlot slots.channel (loose_as loose) }
+    requires { IsInSlot eight_bits (loose_as loose) }
     ensures { span_as result ≡ definition.span_of (loose_as loose) }
 {
     Span {

@@ -9,7 +9,7 @@ ghost use Rattle.frame_state.specs.Scenes.{CanBePainted};
 ghost use Rattle.frame_state.specs.States.{AreOwn, IsInSlots, state_as, states_as};
 ghost use Rattle.paint_blend.specs.Paint.{AreKnown, AreReady, AreStates, box_over, computed_states, span_as};
 
-use crate::blending::{blended_span, hull, span_of};
+use crate::blending::{blended_span, combined_span, hull, span_of};
 use crate::covering::{both, covers};
 use crate::span::Span;
 use fix_span::Loose;
@@ -22,6 +22,14 @@ const WHITE: Rgb = Rgb {
     b: 255,
 };
 
+const CANVAS: Tint = Tint {
+    lo: WHITE,
+    hi: WHITE,
+};
+
+// The alpha by which the body is painted, whatever its opacity.
+const FULL_ALPHA: Span = Span { lo: 255, hi: 255 };
+
 // The most layers that a valid scene has.
 const MOST_LAYERS: usize = 65;
 
@@ -32,6 +40,7 @@ const NOTHING: LayerState = LayerState {
     r: ZERO,
     g: ZERO,
     b: ZERO,
+    cover: ZERO,
     alpha: ZERO,
     left: ZERO,
     top: ZERO,
@@ -83,12 +92,12 @@ fn blue_span(tint: Tint) -> Span
     }
 }
 
-// A layer painted over a tint.
-fn tint_over(state: &LayerState, backdrop: Tint) -> Tint
+// A layer painted over a tint, by its cover and an alpha together.
+fn tint_over(state: &LayerState, opacity: Span, backdrop: Tint) -> Tint
     requires { IsInSlots (state_as state.now) }
-    ensures { result ≡ definition.tint_over (state_as state.now) backdrop }
+    ensures { result ≡ definition.tint_over (state_as state.now) (span_as opacity) backdrop }
 {
-    let alpha = span_of(state.alpha);
+    let alpha = combined_span(span_of(state.cover), opacity);
     tint_by(
         blended_span(span_of(state.r), alpha, red_span(backdrop)),
         blended_span(span_of(state.g), alpha, green_span(backdrop)),
@@ -112,9 +121,9 @@ fn with_box(state: &LayerState, x: u16, y: u16, backdrop: Tint) -> Tint
     ensures { result ≡ box_over (state_as state.now) x y backdrop }
 {
     match both(state.shown, covers(state, x, y)) {
-        Shown::Yes => tint_over(state, backdrop),
+        Shown::Yes => tint_over(state, span_of(state.alpha), backdrop),
         Shown::No => backdrop,
-        Shown::Maybe => tint_hull(tint_over(state, backdrop), backdrop),
+        Shown::Maybe => tint_hull(tint_over(state, span_of(state.alpha), backdrop), backdrop),
     }
 }
 
@@ -128,16 +137,7 @@ fn has_ground(scene: &Scene) -> bool
     }
 }
 
-fn own_colour(state: &LayerState) -> Tint
-    requires { IsInSlots (state_as state.now) }
-    ensures { result ≡ definition.tint_by (definition.span_of (state_as state.now).red)
-        (definition.span_of (state_as state.now).green)
-        (definition.span_of (state_as state.now).blue) }
-{
-    tint_by(span_of(state.r), span_of(state.g), span_of(state.b))
-}
-
-// The tint before any box is painted.
+// The tint before any box is painted: the canvas, with the body over it where it has a colour.
 fn ground(scene: &Scene, states: &[LayerState]) -> Tint
     requires valid { IsValid scene.now }
     requires states { length states.now ≡ length scene.now.layers }
@@ -145,20 +145,17 @@ fn ground(scene: &Scene, states: &[LayerState]) -> Tint
     ensures { result ≡ definition.tint_ground scene.now (states_as states.now) }
 {
     if has_ground(scene) {
-        own_colour(&states[0])
+        tint_over(&states[0], FULL_ALPHA, CANVAS)
     } else {
-        Tint {
-            lo: WHITE,
-            hi: WHITE,
-        }
+        CANVAS
     }
 }
 
 /// The tint of a pixel, by the states of the layers: the least and the greatest colour that it may have,
-/// channel by channel. The canvas is white, the body paints every pixel where it has a colour, whatever its
-/// alpha, and the boxes follow in paint order, each blended in eight bits over what is there; where a box may
-/// or may not be shown there, the tint holds what is there with it and without it. By exact states it is the
-/// one colour that they paint.
+/// channel by channel. The canvas is white, the body is painted on every pixel where it has a colour, whatever
+/// its opacity, and the boxes follow in paint order, each blended in eight bits over what is there, by the
+/// cover of its colour and the alpha of its opacity together; where a box may or may not be shown there, the
+/// tint holds what is there with it and without it. By exact states it is the one colour that they paint.
 pub fn tint_of(scene: &Scene, states: &[LayerState], x: u16, y: u16) -> Tint
     requires valid { IsValid scene.now }
     requires states { length states.now ≡ length scene.now.layers }

@@ -7,7 +7,7 @@ ghost use Rattle.paint_blend.specs.ExamplePage.{the_body, the_box, the_set};
 use super::*;
 use page_model::{
     Anim, Count, Direction, Easing, Fill, Held, Keyframe, KeyframeSet, Layer, List, Prop, Rgb,
-    Scene, Setting, Setup, Tint, Value,
+    Rgba, Scene, Setting, Setup, Tint, Value,
 };
 use std::alloc::Global;
 use std::test::Fail;
@@ -26,10 +26,11 @@ fn body(alloc: Global) -> Layer
     ensures { result ≡ the_body }
 {
     Layer {
-        colour: Some(Rgb {
+        colour: Some(Rgba {
             r: 94,
             g: 236,
             b: 84,
+            a: 255_000,
         }),
         opacity: 1000,
         shown: true,
@@ -58,10 +59,11 @@ fn fading_box(alloc: Global) -> Result<Layer, Fail>
         paused: false,
     };
     Ok(Layer {
-        colour: Some(Rgb {
+        colour: Some(Rgba {
             r: 112,
             g: 48,
             b: 126,
+            a: 255_000,
         }),
         opacity: 1000,
         shown: true,

@@ -9,15 +9,15 @@ use Rattle.page_model.specs.declared.keyframe.Keyframe.{Keyframe}
 use Rattle.page_model.specs.declared.keyframe.KeyframeSet.{KeyframeSet}
 use Rattle.page_model.specs.declared.scene.Layer.{Layer}
 use Rattle.page_model.specs.declared.colour.Rgb.{Rgb}
-use Rattle.page_model.specs.Colour.{IsRunIn, Run, colour_of, painting_of}
+use Rattle.page_model.specs.Colour.{IsRunIn, Run, over, painting_of}
 use Rattle.page_model.specs.Flash.{IsFlagged, IsInRectangle, area, colours_at, sum_below}
-use Rattle.page_model.specs.LayerAt.{no_colour, state_at}
+use Rattle.page_model.specs.LayerAt.{State, state_at}
 use Rattle.page_model.specs.Light.{IsRise}
 use Rattle.page_model.specs.Red.{white}
 use Rattle.page_model.specs.ValidScene.{IsAnimation, IsValid}
 use Rattle.srgb_luma.proofs.LumaLemmas.{luma_of-black, luma_of-white}
 use Rattle.safety_laws.specs.ComputedLaws.{HasNoCurve, IsNoCurve}
-use Rattle.state_laws.specs.ExamplePage.{body_with, keyed, turns_white}
+use Rattle.state_laws.specs.ExamplePage.{body_with, keyed, opaque_black, opaque_white, turns_white}
 use Rattle.safety_laws.specs.StillLaws.{BlinkingIsBad, blinking_page, blinks, ten_a_second}
 use Rattle.safety_laws.proofs.ComputedLemmas.{state-computed}
 use Rattle.state_laws.proofs.ExamplePageLemmas.{between, only, page-valid}
@@ -42,13 +42,20 @@ no_curve = record {
   animations = only (λ (layer : Layer). All (λ (anim : Anim). IsNoCurve anim.easing) layer.anims) (body_with blinks)
       (only (λ (anim : Anim). IsNoCurve anim.easing) blinks tt);
   keyframes = only (λ (set : KeyframeSet). All HasNone set.frames) (turns_white 5000)
-      (All-cons HasNone (keyed 0 no_colour) (keyed 5000 white ∷ []) tt (only HasNone (keyed 5000 white) tt));
+      (All-cons HasNone (keyed 0 opaque_black) (keyed 5000 opaque_white ∷ []) tt (only HasNone (keyed 5000 opaque_white) tt));
 }
 
+-- a body over the canvas
+abbrev on_white : State → Rgb
+on_white state = over state 255 white
+
+abbrev black : Rgb
+black = record { r = 0; g = 0; b = 0 }
+
 -- what is seen of a pixel in a frame of the first window
-seen-is : (run : Run) → IsRunIn blinking_page ten_a_second 0 run → (k column row : ℕ) → k ≤ 10 → painting_of blinking_page run k column row ≡ colour_of (state_at blinking_page ten_a_second k (body_with blinks))
+seen-is : (run : Run) → IsRunIn blinking_page ten_a_second 0 run → (k column row : ℕ) → k ≤ 10 → painting_of blinking_page run k column row ≡ on_white (state_at blinking_page ten_a_second k (body_with blinks))
 seen-is run exact k column row within =
-    ap colour_of ((state-computed blinking_page ten_a_second k 0 (body_with blinks) (run k 0) blinking-valid no_curve refl).0
+    ap on_white ((state-computed blinking_page ten_a_second k 0 (body_with blinks) (run k 0) blinking-valid no_curve refl).0
     (exact k 0 (body_with blinks) (omega arith) within refl))
 
 abbrev frames : List ℕ
@@ -71,7 +78,7 @@ frames-within =
     let h = ltb-true (get_or frames i 0) 11 (agree_below_at is_low (λ j. true) 9 i refl inside) in (omega arith, omega arith))
 
 -- from black to white it rises
-light : (a b : Rgb) → a ≡ no_colour → b ≡ white → IsRise a b
+light : (a b : Rgb) → a ≡ black → b ≡ white → IsRise a b
 light a b e f = rw (e, f) (record { by_a_tenth = omega (arith, luma_of-black, luma_of-white); from_below = omega (arith, luma_of-black) })
 
 flagged : (run : Run) → IsRunIn blinking_page ten_a_second 0 run → (column row : ℕ) → IsFlagged (painting_of blinking_page run) ten_a_second 0 column row
@@ -82,21 +89,21 @@ flagged run exact column row = inl (
     rising = frames-rise;
     within = frames-within;
     alternates = inl (
-      light (seen 0) (seen 1) (black 0 (omega arith) refl) (bright 1 (omega arith) refl),
+      light (seen 0) (seen 1) (dark 0 (omega arith) refl) (bright 1 (omega arith) refl),
       (
-        light (seen 2) (seen 1) (black 2 (omega arith) refl) (bright 1 (omega arith) refl),
+        light (seen 2) (seen 1) (dark 2 (omega arith) refl) (bright 1 (omega arith) refl),
         (
-          light (seen 2) (seen 3) (black 2 (omega arith) refl) (bright 3 (omega arith) refl),
+          light (seen 2) (seen 3) (dark 2 (omega arith) refl) (bright 3 (omega arith) refl),
           (
-            light (seen 4) (seen 3) (black 4 (omega arith) refl) (bright 3 (omega arith) refl),
+            light (seen 4) (seen 3) (dark 4 (omega arith) refl) (bright 3 (omega arith) refl),
             (
-              light (seen 4) (seen 5) (black 4 (omega arith) refl) (bright 5 (omega arith) refl),
+              light (seen 4) (seen 5) (dark 4 (omega arith) refl) (bright 5 (omega arith) refl),
               (
-                light (seen 6) (seen 5) (black 6 (omega arith) refl) (bright 5 (omega arith) refl),
+                light (seen 6) (seen 5) (dark 6 (omega arith) refl) (bright 5 (omega arith) refl),
                 (
-                  light (seen 6) (seen 7) (black 6 (omega arith) refl) (bright 7 (omega arith) refl),
+                  light (seen 6) (seen 7) (dark 6 (omega arith) refl) (bright 7 (omega arith) refl),
                   (
-                    light (seen 8) (seen 7) (black 8 (omega arith) refl) (bright 7 (omega arith) refl),
+                    light (seen 8) (seen 7) (dark 8 (omega arith) refl) (bright 7 (omega arith) refl),
                     tt,
                   ),
                 ),
@@ -111,10 +118,10 @@ flagged run exact column row = inl (
   seen : ℕ → Rgb
   seen = colours_at (painting_of blinking_page run) column row
 
-  black : (k : ℕ) → k ≤ 10 → colour_of (state_at blinking_page ten_a_second k (body_with blinks)) ≡ no_colour → painting_of blinking_page run k column row ≡ no_colour
-  black k within e = seen-is run exact k column row within ∙ e
+  dark : (k : ℕ) → k ≤ 10 → on_white (state_at blinking_page ten_a_second k (body_with blinks)) ≡ black → painting_of blinking_page run k column row ≡ black
+  dark k within e = seen-is run exact k column row within ∙ e
 
-  bright : (k : ℕ) → k ≤ 10 → colour_of (state_at blinking_page ten_a_second k (body_with blinks)) ≡ white → painting_of blinking_page run k column row ≡ white
+  bright : (k : ℕ) → k ≤ 10 → on_white (state_at blinking_page ten_a_second k (body_with blinks)) ≡ white → painting_of blinking_page run k column row ≡ white
   bright k within e = seen-is run exact k column row within ∙ e
 
 -- the marks of a whole rectangle

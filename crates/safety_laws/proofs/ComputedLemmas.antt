@@ -1,7 +1,7 @@
 -- A layer's state, and so a run and what is painted, where no easing is a curve.
 use Rattle.std.proofs.Common.{◌≡◌, ℕ, ◌<◌, ℤ, pos, negsuc, ◌≤ℤ◌, Option, Some, None, slice_get, arith, refl, sym, subst}
 use Rattle.std.proofs.lemmas.Int.{ints}
-use Rattle.page_model.specs.declared.colour.Rgb.{Rgb}
+use Rattle.page_model.specs.declared.colour.Rgba.{Rgba}
 use Rattle.page_model.specs.declared.easing.Easing.TheVariants.{Linear}
 use Rattle.page_model.specs.declared.property.Prop.TheVariants.{Background, Opacity, Visibility, Left, Top, Width, Height}
 use Rattle.page_model.specs.declared.property.Value.{Value}
@@ -9,14 +9,15 @@ use Rattle.page_model.specs.declared.scene.Layer.{Layer}
 use Rattle.page_model.specs.declared.scene.Scene.{Scene}
 use Rattle.page_model.specs.declared.setup.Setup.{Setup}
 use Rattle.page_model.specs.Fraction.{zero_of_one}
-use Rattle.page_model.specs.LayerAt.{Course, still, moving, IsStateAt, IsValueOn, IsShownOn, IsShownWith, State, alpha_of, blue_of, course_of, green_of, length_of, red_of, shown_on, shown_with, state_at, value_on, visible_of}
+use Rattle.page_model.specs.LayerAt.{Course, still, moving, IsChannelOn, IsStateAt, IsValueOn, IsShownOn, IsShownWith, State, alpha_of, blue_of, channel_on, course_of, cover_of, green_of, length_of, red_of, shown_on, shown_with, state_at, value_on, visible_of}
 use Rattle.page_model.specs.Progress.{above_zero}
-use Rattle.page_model.specs.Slot.{Slot, alpha, channel, extent, position}
+use Rattle.page_model.specs.Slot.{Shade, Slot, alpha, cover, extent, position}
 use Rattle.page_model.specs.ValidScene.{IsValid}
 use Rattle.safety_laws.specs.ComputedLaws.{HasNoCurve, RunIsComputed, SafetyIsComputed, StateIsComputed, computed_run}
+use Rattle.safety_laws.proofs.ChannelLemmas.{channel-is}
 use Rattle.safety_laws.proofs.CourseLemmas.{IsPlainOn, eased-positive, scene-plain}
 use Rattle.safety_laws.proofs.RoundingLemmas.{shown-at, slot-is}
-use Rattle.state_laws.proofs.RunLemmas.{value-at_least}
+use Rattle.state_laws.proofs.RunLemmas.{channel_on-at_least, value-at_least}
 use Rattle.safety_laws.proofs.SafetyLemmas.{safe-one_painting}
 use Rattle.state_laws.proofs.UniqueLemmas.{state-unique}
 
@@ -40,11 +41,25 @@ natural-is slot part course unit some low plain =
     natural (pos n) low h k = refl
     natural (negsuc n) low h k = absurd (omega (arith, ints))
 
+channel-on : (part : Value → Shade) (course : Course) → IsPlainOn course → IsChannelOn part course (channel_on part course)
+channel-on part (still x) plain = refl
+channel-on part (moving i) plain = channel-is i.easing i.distance (part i.from) (part i.to) plain.easing.straight
+
+level-on : (part : Value → Shade) (course : Course) → IsPlainOn course → IsChannelOn part course (pos (above_zero (channel_on part course)))
+level-on part course plain =
+    let good = channel-on part course plain in
+    let least = channel_on-at_least part course (channel_on part course) good in
+    subst (λ (v : ℤ). IsChannelOn part course v) (natural (channel_on part course) least) good
+  where
+    natural : (v : ℤ) → pos 0 ≤ℤ v → v ≡ pos (above_zero v)
+    natural (pos n) h = refl
+    natural (negsuc n) h = absurd (omega (arith, ints))
+
 shown_on-is : (course : Course) → IsPlainOn course → IsShownOn course (shown_on course)
 shown_on-is (still x) plain = refl
 shown_on-is (moving i) plain = shown-at i.easing i.distance (visible_of i.from) (visible_of i.to) plain.easing.straight
 
-shown_with-is : (colour : Option Rgb) (course : Course) → IsPlainOn course → IsShownWith colour course (shown_with colour course)
+shown_with-is : (colour : Option Rgba) (course : Course) → IsPlainOn course → IsShownWith colour course (shown_with colour course)
 shown_with-is None course plain = refl
 shown_with-is (Some c) course plain = shown_on-is course plain
 
@@ -55,9 +70,10 @@ pub state-is :
 state-is scene setup frame number layer valid none e =
     let fill = scene-plain scene setup frame number layer Background valid none e in
     let fill_course : Course = course_of scene setup frame layer Background in record {
-      is_red = natural-is channel red_of fill_course (omega arith) (omega (arith, ints)) (omega (arith, ints)) fill;
-      is_green = natural-is channel green_of fill_course (omega arith) (omega (arith, ints)) (omega (arith, ints)) fill;
-      is_blue = natural-is channel blue_of fill_course (omega arith) (omega (arith, ints)) (omega (arith, ints)) fill;
+      is_red = level-on red_of fill_course fill;
+      is_green = level-on green_of fill_course fill;
+      is_blue = level-on blue_of fill_course fill;
+      is_cover = natural-is cover cover_of fill_course (omega arith) (omega (arith, ints)) (omega (arith, ints)) fill;
       is_alpha = natural-is alpha alpha_of (course_of scene setup frame layer Opacity) (omega arith) (omega (arith, ints)) (omega (arith, ints))
           (scene-plain scene setup frame number layer Opacity valid none e);
       is_shown = shown_with-is layer.colour (course_of scene setup frame layer Visibility)

@@ -1,4 +1,5 @@
 pub mod BlinkingLemmas
+pub mod ChannelLemmas
 pub mod ComputedLemmas
 pub mod CourseLemmas
 pub mod RoundingLemmas

@@ -6,7 +6,7 @@ use Rattle.std.proofs.lemmas.Option.{slice_get_cases}
 use Rattle.page_model.specs.declared.colour.Rgb.{Rgb}
 use Rattle.page_model.specs.declared.setup.Setup.{Setup}
 use Rattle.page_model.specs.declared.scene.Scene.{Scene}
-use Rattle.page_model.specs.Colour.{Run, IsRunIn, painting_of, painted, paint_box, ground, body_colour, colour_of}
+use Rattle.page_model.specs.Colour.{Run, IsRunIn, painting_of, painted, over, paint_box, ground, body_colour}
 use Rattle.page_model.specs.Flash.{Alternates, AlternatesEitherWay, Between, HasChain, Flashes, colours_at}
 use Rattle.page_model.specs.LayerAt.{State}
 use Rattle.page_model.specs.Light.{IsRise, IsFall}
@@ -43,7 +43,7 @@ painted-same scene states others column row valid same =
     let first : states 0 ≡ others 0 = same 0 (let some = valid.some_layer in omega arith) in
     fold-same states others column row (ground scene states) (ground scene others) scene.order
     (λ k d within. same (get_or scene.order k d) ((valid.order.boxes (get_or scene.order k d)).0 (All-contains_itself scene.order k d within)).1)
-    (ap (λ (state : State). if is_some (body_colour scene) then colour_of state else white) first)
+    (ap (λ (state : State). if is_some (body_colour scene) then over state 255 white else white) first)
 
 -- a layer that there is has one state in a run
 run-same :

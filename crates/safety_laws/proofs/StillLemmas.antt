@@ -10,11 +10,11 @@ use Rattle.page_model.specs.declared.scene.Scene.{Scene}
 use Rattle.page_model.specs.declared.setup.Setup.{Setup}
 use Rattle.page_model.specs.Colour.{IsRunIn, Run, painting_of}
 use Rattle.page_model.specs.Flash.{AlternatesEitherWay, Between, Flashes, HasChain, area, colours_at, sum_below}
-use Rattle.page_model.specs.LayerAt.{Course, IsShownWith, IsStateAt, IsValueOn, State, alpha_of, blue_of, course_by, course_of, declared, green_of, interval_at, is_held, length_of, red_of, still}
+use Rattle.page_model.specs.LayerAt.{Course, IsChannelOn, IsShownWith, IsStateAt, IsValueOn, State, alpha_of, blue_of, course_by, course_of, cover_of, declared, green_of, interval_at, is_held, length_of, red_of, still}
 use Rattle.page_model.specs.Keyframes.{last_of}
 use Rattle.page_model.specs.Light.{IsFall, IsRise}
 use Rattle.page_model.specs.Red.{AreFar, Chromaticity, IsIntoRed, IsOutOfRed, chromaticity_of, gap}
-use Rattle.page_model.specs.Slot.{alpha, channel, extent, position}
+use Rattle.page_model.specs.Slot.{alpha, cover, extent, position}
 use Rattle.page_model.specs.Time.{window_of}
 use Rattle.page_model.specs.ValidScene.{IsValid}
 use Rattle.safety_laws.specs.StillLaws.{StillIsSafe}
@@ -38,9 +38,10 @@ state-still :
     (scene : Scene) (setup : Setup) (j k : ℕ) (layer : Layer) (state : State) → layer.anims ≡ [] → IsStateAt scene setup j layer state
     → IsStateAt scene setup k layer state
 state-still scene setup j k layer state none good = record {
-  is_red = subst (λ (c : Course). IsValueOn channel red_of c (pos state.red)) (same Background) good.is_red;
-  is_green = subst (λ (c : Course). IsValueOn channel green_of c (pos state.green)) (same Background) good.is_green;
-  is_blue = subst (λ (c : Course). IsValueOn channel blue_of c (pos state.blue)) (same Background) good.is_blue;
+  is_red = subst (λ (c : Course). IsChannelOn red_of c (pos state.red)) (same Background) good.is_red;
+  is_green = subst (λ (c : Course). IsChannelOn green_of c (pos state.green)) (same Background) good.is_green;
+  is_blue = subst (λ (c : Course). IsChannelOn blue_of c (pos state.blue)) (same Background) good.is_blue;
+  is_cover = subst (λ (c : Course). IsValueOn cover cover_of c (pos state.cover)) (same Background) good.is_cover;
   is_alpha = subst (λ (c : Course). IsValueOn alpha alpha_of c (pos state.alpha)) (same Opacity) good.is_alpha;
   is_shown = subst (λ (c : Course). IsShownWith layer.colour c state.shown) (same Visibility) good.is_shown;
   is_left = subst (λ (c : Course). IsValueOn position length_of c state.left) (same Left) good.is_left;

@@ -13,7 +13,7 @@ use Rattle.page_model.specs.Curve.{eased}
 use Rattle.page_model.specs.Flash.{IsSafe}
 use Rattle.page_model.specs.Fraction.{Fraction}
 use Rattle.page_model.specs.LayerAt.{State, IsStateAt, state_at}
-use Rattle.page_model.specs.Slot.{Slot, IsSlotValue, IsShownValue, slot_value, shown_value}
+use Rattle.page_model.specs.Slot.{Slot, Shade, IsSlotValue, IsChannelValue, IsShownValue, slot_value, channel_value, shown_value}
 use Rattle.page_model.specs.ValidScene.{IsValid}
 use Rattle.state_laws.specs.NoState.{no_state}
 
@@ -29,6 +29,12 @@ SlotIsComputed =
     (slot : Slot) (easing : Easing) (at : Fraction) (from to v : ℤ) → IsNoCurve easing → 0 < slot.unit
     → slot.least ≤ℤ slot.greatest → 0 < (eased easing at).den
     → (IsSlotValue slot easing at from to v ↔ (v ≡ slot_value slot from to (eased easing at)))
+
+-- the value of a channel is the premultiplied channel over the alpha, rounded half up, and 0 where there is no alpha
+abbrev pub ChannelIsComputed : Type 0
+ChannelIsComputed =
+    (easing : Easing) (at : Fraction) (from to : Shade) (v : ℤ) → IsNoCurve easing → 0 < (eased easing at).den
+    → (IsChannelValue easing at from to v ↔ (v ≡ channel_value from to (eased easing at)))
 
 -- so is whether a layer is shown
 abbrev pub ShownIsComputed : Type 0

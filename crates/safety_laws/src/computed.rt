@@ -1,10 +1,16 @@
 // What is computed where no easing is a curve.
-ghost use Rattle.safety_laws.specs.ComputedLaws.{RunIsComputed, SafetyIsComputed, ShownIsComputed, SlotIsComputed, StateIsComputed};
+ghost use Rattle.safety_laws.specs.ComputedLaws.{ChannelIsComputed, RunIsComputed, SafetyIsComputed, ShownIsComputed, SlotIsComputed, StateIsComputed};
 
 /// By `linear` and `steps` the value of a slot is the fraction on its way, rounded half up and held in the range. A slot that is
 /// rounded half down is refused.
 pub fn slot_is_computed()
     ensures { SlotIsComputed }
+{}
+
+/// By `linear` and `steps` the value of a channel is that of the premultiplied colours. A channel that goes from its one value to the
+/// other without regard to the alpha is refused.
+pub fn channel_is_computed()
+    ensures { ChannelIsComputed }
 {}
 
 /// By `linear` and `steps` a layer on its way between visible and hidden is visible strictly between 0 and 1. A definition that

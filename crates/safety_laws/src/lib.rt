@@ -13,7 +13,8 @@ mod computed;
 mod safety;
 
 pub use computed::{
-    run_is_computed, safety_is_computed, shown_is_computed, slot_is_computed, state_is_computed,
+    channel_is_computed, run_is_computed, safety_is_computed, shown_is_computed, slot_is_computed,
+    state_is_computed,
 };
 pub use safety::{
     bad_and_safe_exclude, bad_by_looks, blinking_is_bad, one_run_tells, runs_look_alike,

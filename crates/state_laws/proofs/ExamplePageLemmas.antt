@@ -9,12 +9,11 @@ use Rattle.page_model.specs.declared.property.Prop.TheVariants.{Background}
 use Rattle.page_model.specs.declared.property.Setting.{Setting}
 use Rattle.page_model.specs.declared.property.Value.{Value}
 use Rattle.page_model.specs.declared.property.Value.TheVariants as value
-use Rattle.page_model.specs.declared.colour.Rgb.{Rgb}
+use Rattle.page_model.specs.declared.colour.Rgba.{Rgba}
 use Rattle.page_model.specs.declared.scene.Layer.{Layer}
 use Rattle.page_model.specs.LayerAt.{no_colour}
-use Rattle.page_model.specs.Red.{white}
 use Rattle.page_model.specs.ValidScene.{IsAnimation, IsBetween, IsBody, IsColour, IsKeyframe, IsLayer, IsSetInUse, IsValid, IsValueOf, NamesBackgroundAlone, OffsetsRise}
-use Rattle.state_laws.specs.ExamplePage.{body_with, keyed, page_with, turns_white}
+use Rattle.state_laws.specs.ExamplePage.{body_of, from_to_white, keyed, opaque_black, opaque_white, page_of, page_with}
 use Rattle.state_laws.specs.WrongRun.{dives}
 
 -- what holds of one thing holds of all of a list of it
@@ -38,15 +37,18 @@ dives-valid = record {
   };
 }
 
-black-valid : IsColour no_colour
-black-valid = record { red = omega arith; green = omega arith; blue = omega arith }
+pub none-valid : IsColour no_colour
+none-valid = record { red = omega arith; green = omega arith; blue = omega arith; alpha = omega arith }
 
-white-valid : IsColour white
-white-valid = record { red = omega arith; green = omega arith; blue = omega arith }
+black-valid : IsColour opaque_black
+black-valid = record { red = omega arith; green = omega arith; blue = omega arith; alpha = omega arith }
 
-body-layer : (anim : Anim) → IsAnimation 1 anim → IsLayer 1 (body_with anim)
-body-layer anim valid = record {
-  colour = black-valid;
+white-valid : IsColour opaque_white
+white-valid = record { red = omega arith; green = omega arith; blue = omega arith; alpha = omega arith }
+
+body-layer : (first : Rgba) (anim : Anim) → IsColour first → IsAnimation 1 anim → IsLayer 1 (body_of first anim)
+body-layer first anim colour valid = record {
+  colour = colour;
   opacity = omega arith;
   left = between (neg_ℤ (pos 819200)) (pos 819200) (pos 0) (omega (arith, ints)) (omega (arith, ints));
   top = between (neg_ℤ (pos 819200)) (pos 819200) (pos 0) (omega (arith, ints)) (omega (arith, ints));
@@ -58,7 +60,7 @@ body-layer anim valid = record {
 }
 
 -- a keyframe with a colour
-keyed-valid : (offset : ℕ) (colour : Rgb) → offset ≤ 10000 → IsColour colour → IsKeyframe (keyed offset colour)
+keyed-valid : (offset : ℕ) (colour : Rgba) → offset ≤ 10000 → IsColour colour → IsKeyframe (keyed offset colour)
 keyed-valid offset colour within valid = record {
   offset = within;
   easing = tt;
@@ -78,26 +80,26 @@ two-rise a b less (suc zero) (suc zero) first second above e f = absurd (omega a
 two-rise a b less (suc zero) (suc (suc j)) first second above e f = absurd (cc)
 two-rise a b less (suc (suc i)) j first second above e f = absurd (cc)
 
-set-valid : (offset : ℕ) → 0 < offset → offset ≤ 10000 → IsSetInUse (turns_white offset)
-set-valid offset some within = record {
+set-valid : (first : Rgba) (offset : ℕ) → IsColour first → 0 < offset → offset ≤ 10000 → IsSetInUse (from_to_white first offset)
+set-valid first offset colour some within = record {
   is_set = record {
-    frames = All-cons IsKeyframe (keyed 0 no_colour) (keyed offset white ∷ []) (keyed-valid 0 no_colour (omega arith) black-valid)
-        (only IsKeyframe (keyed offset white) (keyed-valid offset white within white-valid));
-    rising = two-rise (keyed 0 no_colour) (keyed offset white) some;
+    frames = All-cons IsKeyframe (keyed 0 first) (keyed offset opaque_white ∷ []) (keyed-valid 0 first (omega arith) colour)
+        (only IsKeyframe (keyed offset opaque_white) (keyed-valid offset opaque_white within white-valid));
+    rising = two-rise (keyed 0 first) (keyed offset opaque_white) some;
   };
-  names = record { place = 0; frame = keyed 0 no_colour; is_there = refl; value = omega arith };
+  names = record { place = 0; frame = keyed 0 first; is_there = refl; value = omega arith };
 }
 
 -- the set names the background alone
-background-alone : (offset : ℕ) → NamesBackgroundAlone (turns_white offset)
-background-alone offset =
-    All-cons (λ (frame : Keyframe). All (λ (setting : Setting). setting.prop ≡ Background) frame.values) (keyed 0 no_colour) (keyed offset white ∷ [])
-    (only (λ (setting : Setting). setting.prop ≡ Background) (record { prop = Background; value = value.Colour no_colour }) refl)
-    (only (λ (frame : Keyframe). All (λ (setting : Setting). setting.prop ≡ Background) frame.values) (keyed offset white)
-    (only (λ (setting : Setting). setting.prop ≡ Background) (record { prop = Background; value = value.Colour white }) refl))
+background-alone : (first : Rgba) (offset : ℕ) → NamesBackgroundAlone (from_to_white first offset)
+background-alone first offset =
+    All-cons (λ (frame : Keyframe). All (λ (setting : Setting). setting.prop ≡ Background) frame.values) (keyed 0 first) (keyed offset opaque_white ∷ [])
+    (only (λ (setting : Setting). setting.prop ≡ Background) (record { prop = Background; value = value.Colour first }) refl)
+    (only (λ (frame : Keyframe). All (λ (setting : Setting). setting.prop ≡ Background) frame.values) (keyed offset opaque_white)
+    (only (λ (setting : Setting). setting.prop ≡ Background) (record { prop = Background; value = value.Colour opaque_white }) refl))
 
-body-valid : (anim : Anim) (offset : ℕ) → IsAnimation 1 anim → IsBody (turns_white offset ∷ []) (body_with anim)
-body-valid anim offset valid = record {
+body-valid : (first : Rgba) (anim : Anim) (offset : ℕ) → IsAnimation 1 anim → IsBody (from_to_white first offset ∷ []) (body_of first anim)
+body-valid first anim offset valid = record {
   left = refl;
   top = refl;
   width = refl;
@@ -106,27 +108,33 @@ body-valid anim offset valid = record {
   opaque = refl;
   visible = refl;
   animated = λ some. refl;
-  background = only (λ (a : Anim). (set : KeyframeSet) → slice_get (turns_white offset ∷ []) a.set ≡ Some set → NamesBackgroundAlone set) anim
-      (λ set e. there offset anim.set set valid.set e);
+  background = only (λ (a : Anim). (set : KeyframeSet) → slice_get (from_to_white first offset ∷ []) a.set ≡ Some set → NamesBackgroundAlone set) anim
+      (λ set e. there first offset anim.set set valid.set e);
 } where
-  there : (offset number : ℕ) (set : KeyframeSet) → number < 1 → slice_get (turns_white offset ∷ []) number ≡ Some set → NamesBackgroundAlone set
-  there offset zero set within e = let p : turns_white offset ≡ set = cc in subst NamesBackgroundAlone p (background-alone offset)
-  there offset (suc n) set within e = absurd (omega arith)
+  there : (first : Rgba) (offset number : ℕ) (set : KeyframeSet) → number < 1 → slice_get (from_to_white first offset ∷ []) number ≡ Some set → NamesBackgroundAlone set
+  there first offset zero set within e = let p : from_to_white first offset ≡ set = cc in subst NamesBackgroundAlone p (background-alone first offset)
+  there first offset (suc n) set within e = absurd (omega arith)
 
-no_box : (anim : Anim) (number : ℕ) (box : Layer) → 1 ≤ number → slice_get (body_with anim ∷ []) number ≡ Some box → ⊥
-no_box anim zero box some e = omega arith
-no_box anim (suc n) box some e = cc
+no_box : (first : Rgba) (anim : Anim) (number : ℕ) (box : Layer) → 1 ≤ number → slice_get (body_of first anim ∷ []) number ≡ Some box → ⊥
+no_box first anim zero box some e = omega arith
+no_box first anim (suc n) box some e = cc
 
-pub page-valid : (anim : Anim) (offset : ℕ) → IsAnimation 1 anim → 0 < offset → offset ≤ 10000 → IsValid (page_with anim offset)
-page-valid anim offset valid some within = record {
+-- from any valid colour
+pub any-valid :
+    (first : Rgba) (anim : Anim) (offset : ℕ) → IsColour first → IsAnimation 1 anim → 0 < offset → offset ≤ 10000
+    → IsValid (page_of first anim offset)
+any-valid first anim offset colour valid some within = record {
   some_layer = omega arith;
   few_layers = omega arith;
-  layers = only (IsLayer 1) (body_with anim) (body-layer anim valid);
-  body = λ b e. let p : body_with anim ≡ b = cc in subst (IsBody (turns_white offset ∷ [])) p (body-valid anim offset valid);
-  boxes = λ number box above e. absurd (no_box anim number box above e);
+  layers = only (IsLayer 1) (body_of first anim) (body-layer first anim colour valid);
+  body = λ b e. let p : body_of first anim ≡ b = cc in subst (IsBody (from_to_white first offset ∷ [])) p (body-valid first anim offset valid);
+  boxes = λ number box above e. absurd (no_box first anim number box above e);
   order = record {
     boxes = λ number. (λ has. absurd (let h = has.1 in omega arith), λ h. absurd (let low = h.0 in let high = h.1 in omega arith));
     sorted = λ i j below inside. absurd (omega arith);
   };
-  sets = only IsSetInUse (turns_white offset) (set-valid offset some within);
+  sets = only IsSetInUse (from_to_white first offset) (set-valid first offset colour some within);
 }
+
+pub page-valid : (anim : Anim) (offset : ℕ) → IsAnimation 1 anim → 0 < offset → offset ≤ 10000 → IsValid (page_with anim offset)
+page-valid anim offset valid some within = any-valid opaque_black anim offset black-valid valid some within

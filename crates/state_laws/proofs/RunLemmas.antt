@@ -1,21 +1,22 @@
 -- It is impossible that a slot has no value, a layer no state, a window no run.
-use Rattle.std.proofs.Common.{◌≡◌, ℕ, zero, suc, ◌+◌, ◌-◌, ◌<◌, ◌≤◌, ℤ, pos, negsuc, ◌+ℤ◌, ◌-ℤ◌, ◌≤ℤ◌, true, false, Option, Some, None, nat_abs, nat_eq, length, slice_get, if◌then◌else◌, arith, refl, sym, subst, inl, inr, eq-eqb, ne_eqb}
+use Rattle.std.proofs.Common.{◌≡◌, ℕ, zero, suc, ◌+◌, ◌-◌, ◌<◌, ◌≤◌, ℤ, pos, negsuc, ◌+ℤ◌, ◌-ℤ◌, ◌≤ℤ◌, ◌<ℤ◌, min, true, false, Option, Some, None, nat_abs, nat_eq, length, slice_get, if◌then◌else◌, arith, refl, sym, subst, inl, inr, eq-eqb, ne_eqb}
 use Rattle.std.proofs.lemmas.Bool.{cases_eq}
 use Rattle.std.proofs.lemmas.Int.{ints, by_lt_z}
 use Rattle.std.proofs.lemmas.Option.{slice_get_cases, slice_get_within}
-use Rattle.page_model.specs.declared.colour.Rgb.{Rgb}
+use Rattle.page_model.specs.declared.colour.Rgba.{Rgba}
 use Rattle.page_model.specs.declared.easing.Easing.TheVariants.{Linear}
 use Rattle.page_model.specs.declared.property.Prop.TheVariants.{Background, Opacity, Visibility, Left, Top, Width, Height}
 use Rattle.page_model.specs.declared.property.Value.{Value}
 use Rattle.page_model.specs.declared.scene.Layer.{Layer}
 use Rattle.page_model.specs.declared.scene.Scene.{Scene}
 use Rattle.page_model.specs.Curve.{Reaches}
-use Rattle.page_model.specs.Fraction.{zero_of_one}
-use Rattle.page_model.specs.LayerAt.{Course, still, moving, State, IsStateAt, IsValueOn, IsShownOn, IsShownWith, course_of, visible_of, red_of, green_of, blue_of, alpha_of, length_of}
-use Rattle.page_model.specs.Slot.{Slot, channel, alpha, position, extent, IsGreatestIn, IsHiddenExactlyWhere, RoundsTo}
+use Rattle.page_model.specs.declared.easing.Easing.{Easing}
+use Rattle.page_model.specs.Fraction.{Fraction, zero_of_one}
+use Rattle.page_model.specs.LayerAt.{Course, still, moving, State, IsStateAt, IsValueOn, IsChannelOn, IsShownOn, IsShownWith, course_of, visible_of, red_of, green_of, blue_of, cover_of, alpha_of, length_of}
+use Rattle.page_model.specs.Slot.{Slot, Shade, cover, alpha, position, extent, IsChannelValue, IsGone, IsGreatestIn, IsGreatestLevel, IsHiddenExactlyWhere, RoundsTo, RoundsToLevel}
 use Rattle.page_model.specs.Time.{window_of}
 use Rattle.state_laws.specs.NoState.{no_state}
-use Rattle.state_laws.specs.RunLaws.{IsMet, SlotHasValue, ShownHasValue, StateExists, RunExists}
+use Rattle.state_laws.specs.RunLaws.{IsMet, ChannelHasValue, SlotHasValue, ShownHasValue, StateExists, RunExists}
 
 -- a slot from a number on, with so many more
 abbrev from_on : ℕ → ℤ → ℕ → Slot
@@ -63,6 +64,57 @@ range-met slot Holds some none =
 pub slot-met : SlotHasValue
 slot-met slot easing at from to some = range-met slot (RoundsTo slot easing at from to) some
 
+-- some level is the greatest: the one after which none holds any more, counted down from 255
+level-below :
+    (Holds : ℤ → Type 0) (n : ℕ) → n ≤ 255 → ((w : ℤ) → pos n <ℤ w → w ≤ℤ pos 255 → Holds w → ⊥) → IsMet (IsGreatestLevel Holds)
+level-below Holds zero small above none =
+    none (pos 0) (record {
+      at_least = omega (arith, ints);
+      at_most = omega (arith, ints);
+      reached = λ more. absurd (omega (arith, ints));
+      greatest = above;
+    })
+level-below Holds (suc n) small above none =
+    level-below Holds n (omega arith) (λ w more most holds. by_lt_z (pos (suc n)) w
+    (λ higher. above w higher most holds)
+    (λ last. none (pos (suc n)) (record {
+      at_least = omega (arith, ints);
+      at_most = omega (arith, ints);
+      reached = λ some. subst Holds (next w n more last) holds;
+      greatest = above;
+    }))) none
+  where
+    next : (w : ℤ) (n : ℕ) → pos n <ℤ w → w ≤ℤ pos (suc n) → w ≡ pos (suc n)
+    next w n more last = omega (arith, ints)
+
+pub level-met : (Holds : ℤ → Type 0) → IsMet (IsGreatestLevel Holds)
+level-met Holds = level-below Holds 255 (omega arith) (λ w above most holds. absurd (omega (arith, ints)))
+
+-- so a channel has a value: 0 if the alpha is gone
+pub channel-met : ChannelHasValue
+channel-met easing at from to none =
+    level-met (RoundsToLevel easing at from to) (λ v good. none v (record {
+      gone = λ gone. absurd (none (pos 0) (record { gone = λ again. refl; left = λ stays. absurd (stays gone) }));
+      left = λ stays. good;
+    }))
+
+-- from 0 to 255
+pub channel-at_least : (easing : Easing) (at : Fraction) (from to : Shade) (v : ℤ) → IsChannelValue easing at from to v → pos 0 ≤ℤ v
+channel-at_least easing at from to v good =
+    by_lt_z v (pos 0)
+    (λ below. absurd (
+    let stays : IsGone easing at from to → ⊥ = λ gone. let e = good.gone gone in omega (arith, ints) in
+    let low = (good.left stays).at_least in omega (arith, ints)))
+    (λ within. within)
+
+pub channel-at_most : (easing : Easing) (at : Fraction) (from to : Shade) (v : ℤ) → IsChannelValue easing at from to v → v ≤ℤ pos 255
+channel-at_most easing at from to v good =
+    by_lt_z (pos 255) v
+    (λ above. absurd (
+    let stays : IsGone easing at from to → ⊥ = λ gone. let e = good.gone gone in omega (arith, ints) in
+    let most = (good.left stays).at_most in omega (arith, ints)))
+    (λ within. within)
+
 -- hidden exactly where a fact holds: shown, if not hidden
 hidden-met : (Hides : Type 0) → IsMet (IsHiddenExactlyWhere Hides)
 hidden-met Hides none =
@@ -99,11 +151,32 @@ natural-met slot part course some low none = value-met slot part course some (ta
     take slot part course low none (negsuc n) good =
         let least = value-at_least slot part course (negsuc n) good in absurd (omega (arith, ints))
 
+-- a channel on a course is a number from 0 to 255
+pub channel_on-at_least : (part : Value → Shade) (course : Course) (v : ℤ) → IsChannelOn part course v → pos 0 ≤ℤ v
+channel_on-at_least part (still x) v same = rw same (omega (arith, ints))
+channel_on-at_least part (moving i) v good = channel-at_least i.easing i.distance (part i.from) (part i.to) v good
+
+pub channel_on-at_most : (part : Value → Shade) (course : Course) (v : ℤ) → IsChannelOn part course v → v ≤ℤ pos 255
+channel_on-at_most part (still x) v same = rw same (omega (arith, ints))
+channel_on-at_most part (moving i) v good = channel-at_most i.easing i.distance (part i.from) (part i.to) v good
+
+channel_on-met : (part : Value → Shade) (course : Course) → IsMet (λ (n : ℕ). IsChannelOn part course (pos n))
+channel_on-met part (still x) none = none (min (part x).level 255) refl
+channel_on-met part (moving i) none =
+    channel-met i.easing i.distance (part i.from) (part i.to) (take i.easing i.distance (part i.from) (part i.to) none)
+  where
+    take :
+        (easing : Easing) (at : Fraction) (from to : Shade) → ((n : ℕ) → IsChannelValue easing at from to (pos n) → ⊥) → (v : ℤ)
+        → IsChannelValue easing at from to v → ⊥
+    take easing at from to none (pos n) good = none n good
+    take easing at from to none (negsuc n) good =
+        let least = channel-at_least easing at from to (negsuc n) good in absurd (omega (arith, ints))
+
 shown_on-met : (course : Course) → IsMet (IsShownOn course)
 shown_on-met (still x) none = none (visible_of x) refl
 shown_on-met (moving i) none = shown-met i.easing i.distance (visible_of i.from) (visible_of i.to) none
 
-shown_with-met : (colour : Option Rgb) (course : Course) → IsMet (IsShownWith colour course)
+shown_with-met : (colour : Option Rgba) (course : Course) → IsMet (IsShownWith colour course)
 shown_with-met None course none = none false refl
 shown_with-met (Some c) course none = shown_on-met course none
 
@@ -112,9 +185,10 @@ pub state-met : StateExists
 state-met scene setup frame layer none =
     let fill = course_of scene setup frame layer Background in
     let solid = course_of scene setup frame layer Opacity in
-    natural-met channel red_of fill (omega (arith, ints)) (omega (arith, ints)) λ r red.
-    natural-met channel green_of fill (omega (arith, ints)) (omega (arith, ints)) λ g green.
-    natural-met channel blue_of fill (omega (arith, ints)) (omega (arith, ints)) λ b blue.
+    channel_on-met red_of fill λ r red.
+    channel_on-met green_of fill λ g green.
+    channel_on-met blue_of fill λ b blue.
+    natural-met cover cover_of fill (omega (arith, ints)) (omega (arith, ints)) λ c covered.
     natural-met alpha alpha_of solid (omega (arith, ints)) (omega (arith, ints)) λ a opaque.
     shown_with-met layer.colour (course_of scene setup frame layer Visibility) λ s shown.
     value-met position length_of (course_of scene setup frame layer Left) (omega (arith, ints)) λ x left.
@@ -122,11 +196,12 @@ state-met scene setup frame layer none =
     value-met extent length_of (course_of scene setup frame layer Width) (omega (arith, ints)) λ w width.
     value-met extent length_of (course_of scene setup frame layer Height) (omega (arith, ints)) λ h height.
     none
-    (record { red = r; green = g; blue = b; alpha = a; shown = s; left = x; top = y; width = w; height = h })
+    (record { red = r; green = g; blue = b; cover = c; alpha = a; shown = s; left = x; top = y; width = w; height = h })
     (record {
       is_red = red;
       is_green = green;
       is_blue = blue;
+      is_cover = covered;
       is_alpha = opaque;
       is_shown = shown;
       is_left = left;

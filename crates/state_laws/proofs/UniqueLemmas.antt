@@ -2,15 +2,15 @@
 use Rattle.std.proofs.Common.{◌≡◌, ℕ, ◌*◌, ◌^◌, ℤ, pos, negsuc, ◌+ℤ◌, ◌-ℤ◌, ◌*ℤ◌, ◌≤ℤ◌, ◌<ℤ◌, Bool, true, false, Option, Some, None, nat_abs, arith, refl, mul-le-mul_right}
 use Rattle.std.proofs.lemmas.Int.{ints, by_lt_z}
 use borrow.Author.Differences.{le_out}
-use Rattle.page_model.specs.declared.colour.Rgb.{Rgb}
+use Rattle.page_model.specs.declared.colour.Rgba.{Rgba}
 use Rattle.page_model.specs.declared.easing.Easing.{Easing}
 use Rattle.page_model.specs.declared.easing.Easing.TheVariants.{Linear, Steps, Cubic}
 use Rattle.page_model.specs.declared.property.Value.{Value}
 use Rattle.page_model.specs.Curve.{Reaches, ReachesAt, FractionReaches, curve_height, stepped}
 use Rattle.page_model.specs.Fraction.{Fraction, zero_of_one}
-use Rattle.page_model.specs.LayerAt.{Course, still, moving, State, IsValueOn, IsShownOn, IsShownWith, red_of, green_of, blue_of, alpha_of, length_of}
-use Rattle.page_model.specs.Slot.{Slot, channel, alpha, position, extent, IsGreatestIn, IsHiddenExactlyWhere, RoundsTo, twice_to_cover, twice_the_way}
-use Rattle.state_laws.specs.UniqueLaws.{SlotIsUnique, ShownIsUnique, StateIsUnique}
+use Rattle.page_model.specs.LayerAt.{Course, still, moving, State, IsValueOn, IsChannelOn, IsShownOn, IsShownWith, red_of, green_of, blue_of, cover_of, alpha_of, length_of}
+use Rattle.page_model.specs.Slot.{Slot, Shade, cover, alpha, position, extent, IsChannelValue, IsGone, IsGreatestIn, IsGreatestLevel, IsHiddenExactlyWhere, RoundsTo, twice_to_cover, twice_the_way}
+use Rattle.state_laws.specs.UniqueLaws.{ChannelIsUnique, SlotIsUnique, ShownIsUnique, StateIsUnique}
 
 -- with a number each smaller one holds
 abbrev pub IsAntitone : (ℤ → Type 0) → Type 0
@@ -85,6 +85,44 @@ pub slot-unique : SlotIsUnique
 slot-unique slot easing at from to v w first second =
     greatest-unique slot (RoundsTo slot easing at from to) v w (RoundsTo-antitone slot easing at from to) first second
 
+-- the greatest level of all is one, whatever it is a level of
+levels-apart : (Holds : ℤ → Type 0) (v w : ℤ) → IsGreatestLevel Holds v → IsGreatestLevel Holds w → v <ℤ w → ⊥
+levels-apart Holds v w first second less =
+    let low = first.at_least in
+    let above : pos 0 <ℤ w = omega (arith, ints) in
+    first.greatest w less second.at_most (second.reached above)
+
+pub level-unique : (Holds : ℤ → Type 0) (v w : ℤ) → IsGreatestLevel Holds v → IsGreatestLevel Holds w → v ≡ w
+level-unique Holds v w first second =
+    by_lt_z v w (λ less. absurd (levels-apart Holds v w first second less))
+    (λ least. by_lt_z w v (λ less. absurd (levels-apart Holds w v second first less)) (λ other. omega (arith, ints)))
+
+-- the greatest level of a fact isn't above that of one which it implies
+pub level-mono : (P Q : ℤ → Type 0) (v w : ℤ) → ((u : ℤ) → P u → Q u) → IsGreatestLevel P v → IsGreatestLevel Q w → v ≤ℤ w
+level-mono P Q v w implied first second =
+    by_lt_z w v (λ above. absurd (second.greatest v above first.at_most
+    (implied v (first.reached (some w v second.at_least above)))))
+    (λ below. below)
+  where
+    some : (w v : ℤ) → pos 0 ≤ℤ w → w <ℤ v → pos 0 <ℤ v
+    some w v low above = omega (arith, ints)
+
+-- so a channel has one value: where the alpha is gone both are 0
+channels-apart :
+    (easing : Easing) (at : Fraction) (from to : Shade) (v w : ℤ) → IsChannelValue easing at from to v
+    → IsChannelValue easing at from to w → v <ℤ w → ⊥
+channels-apart easing at from to v w first second less =
+    let stays : IsGone easing at from to → ⊥ = λ gone. none v w (first.gone gone) (second.gone gone) less in
+    levels-apart _ v w (first.left stays) (second.left stays) less
+  where
+    none : (v w : ℤ) → v ≡ pos 0 → w ≡ pos 0 → v <ℤ w → ⊥
+    none v w e f less = omega (arith, ints)
+
+pub channel-unique : ChannelIsUnique
+channel-unique easing at from to v w first second =
+    by_lt_z v w (λ less. absurd (channels-apart easing at from to v w first second less))
+    (λ least. by_lt_z w v (λ less. absurd (channels-apart easing at from to w v second first less)) (λ other. omega (arith, ints)))
+
 -- hidden exactly where a fact holds: there is one answer
 hidden-unique : (Hides : Type 0) (shown other : Bool) → IsHiddenExactlyWhere Hides shown → IsHiddenExactlyWhere Hides other → shown ≡ other
 hidden-unique Hides true true first second = refl
@@ -107,22 +145,31 @@ part-unique : (slot : Slot) (part : Value → ℤ) (course : Course) (m n : ℕ)
 part-unique slot part course m n first second =
     let same = value-unique slot part course (pos m) (pos n) first second in cc
 
+pub channel_on-unique : (part : Value → Shade) (course : Course) (v w : ℤ) → IsChannelOn part course v → IsChannelOn part course w → v ≡ w
+channel_on-unique part (still x) v w first second = cc
+channel_on-unique part (moving i) v w first second = channel-unique i.easing i.distance (part i.from) (part i.to) v w first second
+
+level_on-unique : (part : Value → Shade) (course : Course) (m n : ℕ) → IsChannelOn part course (pos m) → IsChannelOn part course (pos n) → m ≡ n
+level_on-unique part course m n first second =
+    let same = channel_on-unique part course (pos m) (pos n) first second in cc
+
 shown_on-unique : (course : Course) (shown other : Bool) → IsShownOn course shown → IsShownOn course other → shown ≡ other
 shown_on-unique (still x) shown other first second = cc
 shown_on-unique (moving i) shown other first second = shown-unique i.easing i.distance _ _ shown other first second
 
-shown_with-unique : (colour : Option Rgb) (course : Course) (shown other : Bool) → IsShownWith colour course shown → IsShownWith colour course other → shown ≡ other
+shown_with-unique : (colour : Option Rgba) (course : Course) (shown other : Bool) → IsShownWith colour course shown → IsShownWith colour course other → shown ≡ other
 shown_with-unique None course shown other first second = cc
 shown_with-unique (Some c) course shown other first second = shown_on-unique course shown other first second
 
 -- states with equal parts are equal
 same_state :
-    (s t : State) → s.red ≡ t.red → s.green ≡ t.green → s.blue ≡ t.blue → s.alpha ≡ t.alpha → s.shown ≡ t.shown → s.left ≡ t.left
+    (s t : State) → s.red ≡ t.red → s.green ≡ t.green → s.blue ≡ t.blue → s.cover ≡ t.cover → s.alpha ≡ t.alpha → s.shown ≡ t.shown → s.left ≡ t.left
     → s.top ≡ t.top → s.width ≡ t.width → s.height ≡ t.height → s ≡ t
-same_state s t r g b a v l u w h = λ i. record {
+same_state s t r g b c a v l u w h = λ i. record {
   red = r i;
   green = g i;
   blue = b i;
+  cover = c i;
   alpha = a i;
   shown = v i;
   left = l i;
@@ -134,9 +181,10 @@ same_state s t r g b a v l u w h = λ i. record {
 pub state-unique : StateIsUnique
 state-unique scene setup frame layer s t first second =
     same_state s t
-    (part-unique channel red_of _ s.red t.red first.is_red second.is_red)
-    (part-unique channel green_of _ s.green t.green first.is_green second.is_green)
-    (part-unique channel blue_of _ s.blue t.blue first.is_blue second.is_blue)
+    (level_on-unique red_of _ s.red t.red first.is_red second.is_red)
+    (level_on-unique green_of _ s.green t.green first.is_green second.is_green)
+    (level_on-unique blue_of _ s.blue t.blue first.is_blue second.is_blue)
+    (part-unique cover cover_of _ s.cover t.cover first.is_cover second.is_cover)
     (part-unique alpha alpha_of _ s.alpha t.alpha first.is_alpha second.is_alpha)
     (shown_with-unique _ _ s.shown t.shown first.is_shown second.is_shown)
     (value-unique position length_of _ s.left t.left first.is_left second.is_left)

@@ -3,12 +3,13 @@ use Rattle.std.proofs.Common.{ℕ, ◌*◌, ℤ, pos, ◌≤ℤ◌, arith, refl}
 use Rattle.std.proofs.lemmas.Int.{ints}
 use Rattle.page_model.specs.Curve.{point_of}
 use Rattle.page_model.specs.Fraction.{Fraction}
+use Rattle.page_model.specs.LayerAt.{no_colour}
 use Rattle.page_model.specs.Least.{greatest_up_to}
-use Rattle.page_model.specs.Slot.{RoundsTo, channel}
-use Rattle.state_laws.specs.ExamplePage.{body_with}
-use Rattle.state_laws.specs.WrongRun.{IsRedRunIn, RedRunBreaks, dives, diving, diving_page, one_a_second}
+use Rattle.page_model.specs.Slot.{RoundsTo, cover}
+use Rattle.state_laws.specs.ExamplePage.{body_of}
+use Rattle.state_laws.specs.WrongRun.{CoverRunBreaks, IsCoverRunIn, dives, diving, diving_page, one_a_second}
 use Rattle.state_laws.specs.WrongSlot.{HalfDownBreaks, NearerBreaks, SomeBreaks}
-use Rattle.state_laws.proofs.ExamplePageLemmas.{dives-valid, page-valid}
+use Rattle.state_laws.proofs.ExamplePageLemmas.{any-valid, dives-valid, none-valid}
 use Rattle.state_laws.proofs.UniqueLemmas.{RoundsTo-antitone}
 
 pub half_down-breaks : HalfDownBreaks
@@ -31,14 +32,17 @@ abbrev half_way : Fraction
 half_way = record { num = 10000 * 1000; den = 10000 * 2000 }
 
 -- at scale 16 the curve is far below 0, by more than the slack of that scale
-not_reached : RoundsTo channel diving half_way (pos 0) (pos 255) (pos 0) → ⊥
+not_reached : RoundsTo cover diving half_way (pos 0) (pos 255000) (pos 0) → ⊥
 unfolding point_of greatest_up_to
 not_reached reached = let h = reached 4 in h.le
 
-red_run-empty : (run : ℕ → ℕ → ℤ) → IsRedRunIn diving_page one_a_second 0 run → ⊥
-red_run-empty run exact =
-    let good = exact 1 0 (body_with dives) (omega arith) (omega arith) refl in
-    not_reached (RoundsTo-antitone channel diving half_way (pos 0) (pos 255) (pos 0) (run 1 0) good.at_least good.reached)
+cover_run-empty : (run : ℕ → ℕ → ℤ) → IsCoverRunIn diving_page one_a_second 0 run → ⊥
+cover_run-empty run exact =
+    let good = exact 1 0 (body_of no_colour dives) (omega arith) (omega arith) refl in
+    not_reached (RoundsTo-antitone cover diving half_way (pos 0) (pos 255000) (pos 0) (run 1 0) good.at_least good.reached)
 
-pub red_run-breaks : RedRunBreaks
-red_run-breaks = record { valid = page-valid dives 10000 dives-valid (omega arith) (omega arith); empty = red_run-empty }
+pub cover_run-breaks : CoverRunBreaks
+cover_run-breaks = record {
+  valid = any-valid no_colour dives 10000 none-valid dives-valid (omega arith) (omega arith);
+  empty = cover_run-empty;
+}

@@ -8,6 +8,7 @@ no_state = record {
   red = 0;
   green = 0;
   blue = 0;
+  cover = 0;
   alpha = 0;
   shown = false;
   left = pos 0;

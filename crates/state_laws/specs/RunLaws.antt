@@ -8,7 +8,7 @@ use Rattle.page_model.specs.declared.scene.Scene.{Scene}
 use Rattle.page_model.specs.Colour.{IsRunIn}
 use Rattle.page_model.specs.Fraction.{Fraction}
 use Rattle.page_model.specs.LayerAt.{IsStateAt}
-use Rattle.page_model.specs.Slot.{Slot, IsSlotValue, IsShownValue}
+use Rattle.page_model.specs.Slot.{Slot, Shade, IsSlotValue, IsChannelValue, IsShownValue}
 
 -- it can't be that nothing meets a fact
 abbrev pub IsMet : {A : Type 0} → (A → Type 0) → Type 0
@@ -19,6 +19,10 @@ abbrev pub SlotHasValue : Type 0
 SlotHasValue =
     (slot : Slot) (easing : Easing) (at : Fraction) (from to : ℤ) → slot.least ≤ℤ slot.greatest
     → IsMet (IsSlotValue slot easing at from to)
+
+-- so has a channel
+abbrev pub ChannelHasValue : Type 0
+ChannelHasValue = (easing : Easing) (at : Fraction) (from to : Shade) → IsMet (IsChannelValue easing at from to)
 
 -- and it is shown or not
 abbrev pub ShownHasValue : Type 0

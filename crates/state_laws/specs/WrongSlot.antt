@@ -3,7 +3,7 @@ use Rattle.std.specs.Prelude.{ℤ, pos, Bool, true, false, ◌*◌, ◌+ℤ◌, 
 use Rattle.std.specs.Int.{int_div_euclid}
 use Rattle.page_model.specs.declared.easing.Easing.TheVariants.{Linear}
 use Rattle.page_model.specs.Fraction.{Fraction}
-use Rattle.page_model.specs.Slot.{Slot, RoundsTo, IsSlotValue, IsShownValue, channel, held}
+use Rattle.page_model.specs.Slot.{Slot, RoundsTo, IsSlotValue, IsShownValue, alpha, held}
 
 abbrev pub half : Fraction
 half = record { num = 1; den = 2 }
@@ -24,7 +24,7 @@ value_half_down slot from to x = held slot (rounded_half_down slot from to x)
 -- half the way from 0 to 1 it gives 0, which the definition does not
 abbrev pub HalfDownBreaks : Type 0
 HalfDownBreaks =
-    (IsSlotValue channel Linear half (pos 0) (pos 1) (value_half_down channel (pos 0) (pos 1) half) → ⊥)
+    (IsSlotValue alpha Linear half (pos 0) (pos 1000) (value_half_down alpha (pos 0) (pos 1000) half) → ⊥)
 
 -- wrong: a value that is reached, and not the greatest
 pub record IsSomeIn (slot : Slot) (Holds : ℤ → Type 0) (v : ℤ) : Type 0 where
@@ -34,8 +34,8 @@ pub record IsSomeIn (slot : Slot) (Holds : ℤ → Type 0) (v : ℤ) : Type 0 wh
 
 -- half the way from 0 to 1 both 0 and 1 are
 pub record SomeBreaks : Type 0 where
-  pub none : IsSomeIn channel (RoundsTo channel Linear half (pos 0) (pos 1)) (pos 0)
-  pub one : IsSomeIn channel (RoundsTo channel Linear half (pos 0) (pos 1)) (pos 1)
+  pub none : IsSomeIn alpha (RoundsTo alpha Linear half (pos 0) (pos 1000)) (pos 0)
+  pub one : IsSomeIn alpha (RoundsTo alpha Linear half (pos 0) (pos 1000)) (pos 1)
 
 -- wrong: the nearer of the two values is shown
 abbrev pub shown_if_nearer : Bool → Bool → Fraction → Bool

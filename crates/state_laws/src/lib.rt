@@ -14,6 +14,6 @@ mod runs;
 mod slots;
 mod wrong;
 
-pub use runs::{shown_has_value, slot_has_value, some_run_exists, state_exists};
-pub use slots::{shown_is_unique, slot_is_unique, state_is_unique};
-pub use wrong::{half_down_breaks, nearer_breaks, red_run_breaks, some_breaks};
+pub use runs::{channel_has_value, shown_has_value, slot_has_value, some_run_exists, state_exists};
+pub use slots::{channel_is_unique, shown_is_unique, slot_is_unique, state_is_unique};
+pub use wrong::{cover_run_breaks, half_down_breaks, nearer_breaks, some_breaks};

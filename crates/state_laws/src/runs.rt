@@ -1,10 +1,16 @@
 // Exact states, of which there is always one.
-ghost use Rattle.state_laws.specs.RunLaws.{RunExists, ShownHasValue, SlotHasValue, StateExists};
+ghost use Rattle.state_laws.specs.RunLaws.{ChannelHasValue, RunExists, ShownHasValue, SlotHasValue, StateExists};
 
 /// It is impossible that a slot has no value. A definition that asks for a value that is reached, with no word of the least of the
 /// range, is refused: below the range it has none.
 pub fn slot_has_value()
     ensures { SlotHasValue }
+{}
+
+/// It is impossible that a channel has no value, also where the alpha goes below 0 on the way. A definition that speaks of a channel
+/// only where the alpha is above 0 on the whole way is refused.
+pub fn channel_has_value()
+    ensures { ChannelHasValue }
 {}
 
 /// It is impossible that a layer is neither shown nor hidden. A definition by which visible has to be reached too is refused: below 0

@@ -1,5 +1,5 @@
 // Wrong definitions beside the right ones, each with an example on which it breaks a law.
-ghost use Rattle.state_laws.specs.WrongRun.{RedRunBreaks};
+ghost use Rattle.state_laws.specs.WrongRun.{CoverRunBreaks};
 ghost use Rattle.state_laws.specs.WrongSlot.{HalfDownBreaks, NearerBreaks, SomeBreaks};
 
 /// A slot rounded half down isn't what is computed: half the way from 0 to 1 is 1.
@@ -17,7 +17,8 @@ pub fn nearer_breaks()
     ensures { NearerBreaks }
 {}
 
-/// A run by slots that have to be reached, the least of the range too, may be empty: on a page whose colour follows a curve below 0.
-pub fn red_run_breaks()
-    ensures { RedRunBreaks }
+/// A run by slots that have to be reached, the least of the range too, may be empty: on a page whose colour's
+/// alpha follows a curve below 0.
+pub fn cover_run_breaks()
+    ensures { CoverRunBreaks }
 {}

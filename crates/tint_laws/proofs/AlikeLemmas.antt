@@ -7,20 +7,21 @@ use Rattle.page_model.specs.declared.scene.Scene.{Scene}
 use Rattle.page_model.specs.Colour.{body_colour}
 use Rattle.page_model.specs.Enclosure.{LooseState, Sureness}
 use Rattle.page_model.specs.Red.{white}
-use Rattle.page_model.specs.TintOf.{both, covers_surely, painted_where, single, span_of, tint_box, tint_by, tint_ground, tint_of, tint_over}
+use Rattle.page_model.specs.TintOf.{both, covers_surely, full_alpha, painted_where, single, span_of, tint_box, tint_ground, tint_of, tint_over}
 use Rattle.page_model.specs.ValidScene.{IsValid}
 use Rattle.tint_laws.specs.AlikeLaws.{AlikePixelsHaveOneTint, AreAlike}
 
 -- a state painted where it is shown and covers the pixel
 abbrev box_over : LooseState → ℕ → ℕ → Tint → Tint
 box_over state column row backdrop =
-    painted_where (both state.shown (covers_surely state column row)) (tint_over state backdrop) backdrop
+    painted_where (both state.shown (covers_surely state column row)) (tint_over state (span_of state.alpha) backdrop) backdrop
 
 box-alike : (loose other : LooseState) (column row other_column other_row : ℕ) (tint : Tint)
     → AreAlike loose other column row other_column other_row → box_over loose column row tint ≡ box_over other other_column other_row tint
 box-alike loose other column row other_column other_row tint are =
-    ap (λ (s : Sureness). painted_where (both loose.shown s) (tint_over loose tint) tint) are.alike
-    ∙ ap (λ (state : LooseState). painted_where (both state.shown (covers_surely other other_column other_row)) (tint_over state tint) tint) are.same
+    ap (λ (s : Sureness). painted_where (both loose.shown s) (tint_over loose (span_of loose.alpha) tint) tint) are.alike
+    ∙ ap (λ (state : LooseState).
+    painted_where (both state.shown (covers_surely other other_column other_row)) (tint_over state (span_of state.alpha) tint) tint) are.same
 
 boxes-alike : (loose other : ℕ → LooseState) (column row other_column other_row : ℕ) (order : List ℕ) (tint : Tint)
     → All (λ number. AreAlike (loose number) (other number) column row other_column other_row) order
@@ -37,7 +38,7 @@ pub tint-alike : AlikePixelsHaveOneTint
 tint-alike scene loose other column row other_column other_row valid are =
     ap (λ (s : LooseState).
     fold (tint_box loose column row)
-    (if is_some (body_colour scene) then tint_by (span_of s.red) (span_of s.green) (span_of s.blue) else single white) scene.order) are.body
+    (if is_some (body_colour scene) then tint_over s full_alpha (single white) else single white) scene.order) are.body
     ∙ boxes-alike loose other column row other_column other_row scene.order (tint_ground scene other)
     (λ k d within.
     let box = (valid.order.boxes (get_or scene.order k d)).0 (All-contains_itself scene.order k d within) in

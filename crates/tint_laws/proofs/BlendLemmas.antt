@@ -1,10 +1,10 @@
 -- Blending in eight bits lies between its values at the ends of source, alpha and backdrop.
-use Rattle.std.proofs.Common.{◌≡◌, ℕ, ◌+◌, ◌-◌, ◌*◌, ◌/◌, ◌≤◌, inl, inr, arith}
+use Rattle.std.proofs.Common.{◌≡◌, ℕ, ◌+◌, ◌-◌, ◌*◌, ◌/◌, ◌≤◌, inl, inr, arith, mul-le-mul}
 use Rattle.std.specs.Prelude.{min, max}
 use Rattle.std.proofs.lemmas.Bool.{cases_lt}
 use Rattle.std.proofs.Math.Nat.{mul-le-mul_right}
-use Rattle.page_model.specs.Colour.{blended}
-use Rattle.page_model.specs.TintOf.{Span, least_of, greatest_of, blended_at, blended_span}
+use Rattle.page_model.specs.Colour.{blended, combined}
+use Rattle.page_model.specs.TintOf.{Span, least_of, greatest_of, blended_at, blended_span, combined_span}
 
 -- a number lies in a span
 pub record IsIn (span : Span) (n : ℕ) : Type 0 where
@@ -121,3 +121,28 @@ blended_span-in source alpha backdrop s a d within first second third =
 
       most : (span : Span) (a b : ℕ) → IsIn span a → IsIn span b → IsIn span (max a b)
       most span a b p q = record { least = omega (arith, p.least); most = omega (arith, p.most, q.most) }
+
+-- more cover or more alpha is more of both together, and of two up to 255 it is up to 255
+combined-le : (c d a b : ℕ) → c ≤ d → a ≤ b → combined c a ≤ combined d b
+combined-le c d a b first second =
+    divided (c * a) (d * b) (mul-le-mul first second) where
+      divided : (m n : ℕ) → m ≤ n → (m + 127) / 255 ≤ (n + 127) / 255
+      divided m n order = omega (arith, order)
+
+pub combined-small : (c a : ℕ) → c ≤ 255 → a ≤ 255 → combined c a ≤ 255
+combined-small c a first second =
+    divided (c * a) (mul-le-mul first second) where
+      divided : (m : ℕ) → m ≤ 255 * 255 → (m + 127) / 255 ≤ 255
+      divided m order = omega (arith, order)
+
+pub combined-in : (cover alpha : Span) (c a : ℕ) → IsIn cover c → IsIn alpha a → IsIn (combined_span cover alpha) (combined c a)
+combined-in cover alpha c a first second = record {
+  least = combined-le cover.lo c alpha.lo a first.least second.least;
+  most = combined-le c cover.hi a alpha.hi first.most second.most;
+}
+
+pub combined_span-in : (cover alpha c a : Span) → SpanIn cover c → SpanIn alpha a → SpanIn (combined_span cover alpha) (combined_span c a)
+combined_span-in cover alpha c a first second = record {
+  least = combined-in cover alpha c.lo a.lo first.least second.least;
+  most = combined-in cover alpha c.hi a.hi first.most second.most;
+}

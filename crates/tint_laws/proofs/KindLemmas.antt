@@ -1,18 +1,19 @@
 -- Proofs that the kinds of bad windows of a scene nest.
-use Rattle.std.proofs.Common.{◌≡◌, ℕ}
+use Rattle.std.proofs.Common.{◌≡◌, ℕ, arith}
+use Rattle.std.proofs.lemmas.Int.{ints}
 use Rattle.std.specs.Prelude.{ℤ, Option, Some, None, slice_get}
 use Rattle.page_model.specs.declared.setup.Setup.{Setup}
-use Rattle.page_model.specs.declared.colour.Rgb.{Rgb}
+use Rattle.page_model.specs.declared.colour.Rgba.{Rgba}
 use Rattle.page_model.specs.declared.easing.Easing.TheVariants.{Linear}
 use Rattle.page_model.specs.declared.property.Prop.{Prop}
 use Rattle.page_model.specs.declared.property.Prop.TheVariants.{Background, Opacity, Visibility, Left, Top, Width, Height}
 use Rattle.page_model.specs.declared.property.Value.{Value}
 use Rattle.page_model.specs.declared.scene.Layer.{Layer}
 use Rattle.page_model.specs.declared.scene.Scene.{Scene}
-use Rattle.page_model.specs.Enclosure.{own, wide, Loose, LooseState, LooseRun, Sureness, IsLooseOn, IsSurelyShownWith, IsLooseStateAt}
+use Rattle.page_model.specs.Enclosure.{own, wide, Loose, LooseState, LooseRun, Sureness, IsLooseChannelOn, IsLooseOn, IsSurelyShownWith, IsLooseStateAt}
 use Rattle.page_model.specs.Fraction.{zero_of_one}
-use Rattle.page_model.specs.LayerAt.{Course, still, moving, course_of, red_of, green_of, blue_of, alpha_of, length_of, visible_of}
-use Rattle.page_model.specs.Slot.{Slot, channel, alpha, position, extent}
+use Rattle.page_model.specs.LayerAt.{Course, still, moving, course_of, red_of, green_of, blue_of, cover_of, alpha_of, length_of, visible_of}
+use Rattle.page_model.specs.Slot.{Shade, Slot, cover, alpha, position, extent}
 use Rattle.page_model.specs.TintOf.{IsLooseRunIn, tints_of}
 use Rattle.page_model.specs.ValidScene.{IsValid}
 use Rattle.tint_laws.specs.NestLaws.{PixelsLieIn}
@@ -21,6 +22,7 @@ use Rattle.tint_laws.specs.TintLaws.{LooseIn, LooseStateWithin}
 use Rattle.tint_laws.specs.WindowLaws.{KindsOfBadWindowsNest}
 use Rattle.tint_laws.proofs.CourseLemmas.{IsGoodCourse, good_course_of}
 use Rattle.tint_laws.proofs.NestLemmas.{bad_windows_nest}
+use Rattle.curve_laws.proofs.ChannelLemmas.{loose_channels_nest}
 use Rattle.curve_laws.proofs.SlotLemmas.{loose_slots_nest, loose_shown_nests}
 use Rattle.tint_laws.proofs.TintNestLemmas.{tints_hold_tints}
 use Rattle.tint_laws.proofs.WindowLemmas.{layer-at, loose-most}
@@ -37,8 +39,21 @@ loose-in slot part (moving interval) outer inner good first second = record {
   order = loose_slots_nest.in_order own slot interval.easing good interval.distance (part interval.from) (part interval.to) inner second;
 }
 
+-- a loose channel
+channel-in : (part : Value → Shade) (course : Course) (outer inner : Loose) → IsGoodCourse course
+    → IsLooseChannelOn wide part course outer → IsLooseChannelOn own part course inner → LooseIn outer inner
+channel-in part (still x) outer inner good first second =
+    rw (first, second) (record {
+      within = record { least = omega (arith, ints); greatest = omega (arith, ints) };
+      order = omega (arith, ints);
+    })
+channel-in part (moving interval) outer inner good first second = record {
+  within = loose_channels_nest.own_in_wide interval.easing good interval.distance (part interval.from) (part interval.to) outer inner first second;
+  order = loose_channels_nest.in_order own interval.easing good interval.distance (part interval.from) (part interval.to) inner second;
+}
+
 -- how surely it is shown
-shown-looser : (colour : Option Rgb) (course : Course) (outer inner : Sureness) → IsGoodCourse course
+shown-looser : (colour : Option Rgba) (course : Course) (outer inner : Sureness) → IsGoodCourse course
     → IsSurelyShownWith wide colour course outer → IsSurelyShownWith own colour course inner → IsLooser outer inner
 shown-looser None course outer inner good first second = rw (first, second) tt
 shown-looser (Some colour) (still x) outer inner good first second =
@@ -55,9 +70,11 @@ state-in scene setup frame number layer outer inner valid is first second =
     let background = course_of scene setup frame layer Background in
     let opacity = course_of scene setup frame layer Opacity in
     record {
-      red = loose-in channel red_of background outer.red inner.red (good Background) first.is_red second.is_red;
-      green = loose-in channel green_of background outer.green inner.green (good Background) first.is_green second.is_green;
-      blue = loose-in channel blue_of background outer.blue inner.blue (good Background) first.is_blue second.is_blue;
+      red = channel-in red_of background outer.red inner.red (good Background) first.is_red second.is_red;
+      green = channel-in green_of background outer.green inner.green (good Background) first.is_green second.is_green;
+      blue = channel-in blue_of background outer.blue inner.blue (good Background) first.is_blue second.is_blue;
+      cover = loose-in cover cover_of background outer.cover inner.cover (good Background) first.is_cover second.is_cover;
+      solid = loose-most wide cover cover_of background outer.cover first.is_cover;
       alpha = loose-in alpha alpha_of opacity outer.alpha inner.alpha (good Opacity) first.is_alpha second.is_alpha;
       opaque = loose-most wide alpha alpha_of opacity outer.alpha first.is_alpha;
       shown = shown-looser layer.colour (course_of scene setup frame layer Visibility) outer.shown inner.shown (good Visibility) first.is_shown second.is_shown;

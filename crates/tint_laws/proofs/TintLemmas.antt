@@ -8,16 +8,16 @@ use borrow.Author.Differences.{lt-true, lt-false, le-true, le-false}
 use Rattle.page_model.specs.declared.colour.Rgb.{Rgb}
 use Rattle.page_model.specs.declared.colour.Tint.{Tint}
 use Rattle.page_model.specs.declared.scene.Scene.{Scene}
-use Rattle.page_model.specs.Colour.{spans, covers, over, colour_of, paint_box, ground, body_colour}
+use Rattle.page_model.specs.Colour.{spans, combined, covers, over, paint_box, ground, body_colour}
 use Rattle.page_model.specs.Enclosure.{Loose, LooseState, Sureness, surely, surely_not, maybe}
 use Rattle.page_model.specs.LayerAt.{State}
 use Rattle.page_model.specs.Progress.{above_zero}
 use Rattle.page_model.specs.Red.{white}
-use Rattle.page_model.specs.TintOf.{both, spans_surely, covers_surely, span_of, tint_by, red_span, green_span, blue_span, tint_over, tint_hull, painted_where, tint_box, tint_ground}
+use Rattle.page_model.specs.TintOf.{Span, both, spans_surely, covers_surely, span_of, combined_span, full_alpha, single, red_span, green_span, blue_span, tint_over, tint_hull, painted_where, tint_box, tint_ground}
 use Rattle.curve_laws.specs.SlotLaws.{IsWithin, Agrees}
 use Rattle.flash_laws.specs.SureLaws.{IsOf}
 use Rattle.tint_laws.specs.TintLaws.{StateWithin, TintsHoldColours}
-use Rattle.tint_laws.proofs.BlendLemmas.{IsIn, blended-in}
+use Rattle.tint_laws.proofs.BlendLemmas.{IsIn, blended-in, combined-in, combined-small}
 
 -- a loose channel as a span
 in-span : (loose : Loose) (n : ℕ) → IsWithin loose (pos n) → IsIn (span_of loose) n
@@ -37,14 +37,16 @@ alpha-within loose order = high loose.hi order where
   high (negsuc z) order = omega arith
 
 -- a colour over another
-over-of : (loose : LooseState) (state : State) (backdrop : Tint) (c : Rgb) → StateWithin loose state → IsOf backdrop c
-    → IsOf (tint_over loose backdrop) (over state c)
-over-of loose state backdrop c within is =
-    let opaque = alpha-within loose.alpha within.opaque in
-    let alpha = in-span loose.alpha state.alpha within.alpha in
-    let red = blended-in (span_of loose.red) (span_of loose.alpha) (red_span backdrop) state.red state.alpha c.r opaque (in-span loose.red state.red within.red) alpha (record { least = is.red_least; most = is.red_most }) in
-    let green = blended-in (span_of loose.green) (span_of loose.alpha) (green_span backdrop) state.green state.alpha c.g opaque (in-span loose.green state.green within.green) alpha (record { least = is.green_least; most = is.green_most }) in
-    let blue = blended-in (span_of loose.blue) (span_of loose.alpha) (blue_span backdrop) state.blue state.alpha c.b opaque (in-span loose.blue state.blue within.blue) alpha (record { least = is.blue_least; most = is.blue_most }) in
+over-of : (loose : LooseState) (state : State) (alpha : Span) (a : ℕ) (backdrop : Tint) (c : Rgb) → StateWithin loose state → IsIn alpha a
+    → alpha.hi ≤ 255 → IsOf backdrop c → IsOf (tint_over loose alpha backdrop) (over state a c)
+over-of loose state alpha a backdrop c within inside small is =
+    let both : Span = combined_span (span_of loose.cover) alpha in
+    let all : ℕ = combined state.cover a in
+    let opaque = combined-small (span_of loose.cover).hi alpha.hi (alpha-within loose.cover within.solid) small in
+    let shares = combined-in (span_of loose.cover) alpha state.cover a (in-span loose.cover state.cover within.cover) inside in
+    let red = blended-in (span_of loose.red) both (red_span backdrop) state.red all c.r opaque (in-span loose.red state.red within.red) shares (record { least = is.red_least; most = is.red_most }) in
+    let green = blended-in (span_of loose.green) both (green_span backdrop) state.green all c.g opaque (in-span loose.green state.green within.green) shares (record { least = is.green_least; most = is.green_most }) in
+    let blue = blended-in (span_of loose.blue) both (blue_span backdrop) state.blue all c.b opaque (in-span loose.blue state.blue within.blue) shares (record { least = is.blue_least; most = is.blue_most }) in
     record {
       red_least = red.least;
       red_most = red.most;
@@ -168,26 +170,12 @@ box-of loose states column row backdrop c box within is =
     let across = spans-agree (loose box).left (loose box).width (states box).left (states box).width column within.left within.width in
     let down = spans-agree (loose box).top (loose box).height (states box).top (states box).height row within.top within.height in
     let covered = both-agree (spans_surely (loose box).left (loose box).width column) (spans_surely (loose box).top (loose box).height row) (spans (states box).left (states box).width column) (spans (states box).top (states box).height row) across down in
-    painted-of (both (loose box).shown (covers_surely (loose box) column row)) ((states box).shown && covers (states box) column row) (tint_over (loose box) backdrop) backdrop (over (states box) c) c
+    painted-of (both (loose box).shown (covers_surely (loose box) column row)) ((states box).shown && covers (states box) column row) (tint_over (loose box) (span_of (loose box).alpha) backdrop) backdrop (over (states box) (states box).alpha c) c
     (both-agree (loose box).shown (covers_surely (loose box) column row) (states box).shown (covers (states box) column row) within.shown covered)
-    (over-of (loose box) (states box) backdrop c within is) is
+    (over-of (loose box) (states box) (span_of (loose box).alpha) (states box).alpha backdrop c within
+    (in-span (loose box).alpha (states box).alpha within.alpha) (alpha-within (loose box).alpha within.opaque) is) is
 
 -- the ground
-colour-of : (loose : LooseState) (state : State) → StateWithin loose state
-    → IsOf (tint_by (span_of loose.red) (span_of loose.green) (span_of loose.blue)) (colour_of state)
-colour-of loose state within =
-    let red = in-span loose.red state.red within.red in
-    let green = in-span loose.green state.green within.green in
-    let blue = in-span loose.blue state.blue within.blue in
-    record {
-      red_least = red.least;
-      red_most = red.most;
-      green_least = green.least;
-      green_most = green.most;
-      blue_least = blue.least;
-      blue_most = blue.most;
-    }
-
 itself-of : (c : Rgb) → IsOf (record { lo = c; hi = c }) c
 itself-of c = record {
   red_least = omega arith;
@@ -202,7 +190,8 @@ ground-of : (scene : Scene) (loose : ℕ → LooseState) (states : ℕ → State
     → IsOf (tint_ground scene loose) (ground scene states)
 ground-of scene loose states within =
     elim (cases_Bool (is_some (body_colour scene))) [
-      | inl coloured ↦ rw coloured (colour-of (loose 0) (states 0) within)
+      | inl coloured ↦ rw coloured (over-of (loose 0) (states 0) full_alpha 255 (single white) white within
+          (record { least = omega arith; most = omega arith }) (omega arith) (itself-of white))
       | inr bare ↦ rw bare (itself-of white)
     ]
 

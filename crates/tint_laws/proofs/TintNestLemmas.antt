@@ -12,12 +12,12 @@ use Rattle.page_model.specs.Colour.{body_colour}
 use Rattle.page_model.specs.Enclosure.{Loose, LooseState, Sureness, surely, surely_not, maybe}
 use Rattle.page_model.specs.Progress.{above_zero}
 use Rattle.page_model.specs.Red.{white}
-use Rattle.page_model.specs.TintOf.{both, spans_surely, covers_surely, Span, span_of, tint_by, red_span, green_span, blue_span, tint_over, tint_hull, painted_where, tint_box, tint_ground}
+use Rattle.page_model.specs.TintOf.{both, spans_surely, covers_surely, Span, span_of, combined_span, full_alpha, single, tint_by, red_span, green_span, blue_span, tint_over, tint_hull, painted_where, tint_box, tint_ground}
 use Rattle.tint_laws.specs.NestLaws.{LiesIn}
 use Rattle.curve_laws.specs.SlotLaws.{IsLooser}
 use Rattle.flash_laws.specs.SureLaws.{IsOf}
 use Rattle.tint_laws.specs.TintLaws.{LooseIn, LooseStateWithin, TintsHoldTints}
-use Rattle.tint_laws.proofs.BlendLemmas.{SpanIn, blended_span-in}
+use Rattle.tint_laws.proofs.BlendLemmas.{IsIn, SpanIn, blended_span-in, combined-small, combined_span-in}
 use Rattle.tint_laws.proofs.TintLemmas.{alpha-within, hull-first, hull-second}
 
 -- loose channels as spans
@@ -58,18 +58,21 @@ tint-lies a b c p q r red green blue = record {
   };
 }
 
-over-lies : (outer inner : LooseState) (a b : Tint) → LooseStateWithin outer inner → LiesIn a b → LiesIn (tint_over outer a) (tint_over inner b)
-over-lies outer inner a b within lies =
-    let opaque = alpha-within outer.alpha within.opaque in
-    let alpha = span-in outer.alpha inner.alpha within.alpha in
+over-lies : (outer inner : LooseState) (all some : Span) (a b : Tint) → LooseStateWithin outer inner → SpanIn all some → all.hi ≤ 255
+    → LiesIn a b → LiesIn (tint_over outer all a) (tint_over inner some b)
+over-lies outer inner all some a b within inside small lies =
+    let more : Span = combined_span (span_of outer.cover) all in
+    let less : Span = combined_span (span_of inner.cover) some in
+    let opaque = combined-small (span_of outer.cover).hi all.hi (alpha-within outer.cover within.solid) small in
+    let alpha = combined_span-in (span_of outer.cover) all (span_of inner.cover) some (span-in outer.cover inner.cover within.cover) inside in
     let least = lies.least in
     let most = lies.most in
     tint-lies _ _ _ _ _ _
-    (blended_span-in (span_of outer.red) (span_of outer.alpha) (red_span a) (span_of inner.red) (span_of inner.alpha) (red_span b) opaque (span-in outer.red inner.red within.red) alpha
+    (blended_span-in (span_of outer.red) more (red_span a) (span_of inner.red) less (red_span b) opaque (span-in outer.red inner.red within.red) alpha
     (record { least = record { least = least.red_least; most = least.red_most }; most = record { least = most.red_least; most = most.red_most } }))
-    (blended_span-in (span_of outer.green) (span_of outer.alpha) (green_span a) (span_of inner.green) (span_of inner.alpha) (green_span b) opaque (span-in outer.green inner.green within.green) alpha
+    (blended_span-in (span_of outer.green) more (green_span a) (span_of inner.green) less (green_span b) opaque (span-in outer.green inner.green within.green) alpha
     (record { least = record { least = least.green_least; most = least.green_most }; most = record { least = most.green_least; most = most.green_most } }))
-    (blended_span-in (span_of outer.blue) (span_of outer.alpha) (blue_span a) (span_of inner.blue) (span_of inner.alpha) (blue_span b) opaque (span-in outer.blue inner.blue within.blue) alpha
+    (blended_span-in (span_of outer.blue) more (blue_span a) (span_of inner.blue) less (blue_span b) opaque (span-in outer.blue inner.blue within.blue) alpha
     (record { least = record { least = least.blue_least; most = least.blue_most }; most = record { least = most.blue_least; most = most.blue_most } }))
 
 -- hulls
@@ -214,9 +217,10 @@ box-lies outer inner column row a b box within lies =
     let across = spans-looser (outer box).left (outer box).width (inner box).left (inner box).width column within.left within.width in
     let down = spans-looser (outer box).top (outer box).height (inner box).top (inner box).height row within.top within.height in
     let covered = both-looser (spans_surely (outer box).left (outer box).width column) (spans_surely (outer box).top (outer box).height row) (spans_surely (inner box).left (inner box).width column) (spans_surely (inner box).top (inner box).height row) across down in
-    painted-lies (both (outer box).shown (covers_surely (outer box) column row)) (both (inner box).shown (covers_surely (inner box) column row)) (tint_over (outer box) a) a (tint_over (inner box) b) b
+    painted-lies (both (outer box).shown (covers_surely (outer box) column row)) (both (inner box).shown (covers_surely (inner box) column row)) (tint_over (outer box) (span_of (outer box).alpha) a) a (tint_over (inner box) (span_of (inner box).alpha) b) b
     (both-looser (outer box).shown (covers_surely (outer box) column row) (inner box).shown (covers_surely (inner box) column row) within.shown covered)
-    (over-lies (outer box) (inner box) a b within lies) lies
+    (over-lies (outer box) (inner box) (span_of (outer box).alpha) (span_of (inner box).alpha) a b within
+    (span-in (outer box).alpha (inner box).alpha within.alpha) (alpha-within (outer box).alpha within.opaque) lies) lies
 
 itself-lies : (c : Rgb) → LiesIn (record { lo = c; hi = c }) (record { lo = c; hi = c })
 itself-lies c = record { least = itself; most = itself } where
@@ -234,10 +238,13 @@ ground-lies : (scene : Scene) (outer inner : ℕ → LooseState) → LooseStateW
     → LiesIn (tint_ground scene outer) (tint_ground scene inner)
 ground-lies scene outer inner within =
     elim (cases_Bool (is_some (body_colour scene))) [
-      | inl coloured ↦ rw coloured (tint-lies (span_of (outer 0).red) (span_of (outer 0).green) (span_of (outer 0).blue) (span_of (inner 0).red) (span_of (inner 0).green) (span_of (inner 0).blue)
-          (span-in (outer 0).red (inner 0).red within.red) (span-in (outer 0).green (inner 0).green within.green) (span-in (outer 0).blue (inner 0).blue within.blue))
+      | inl coloured ↦ rw coloured (over-lies (outer 0) (inner 0) full_alpha full_alpha (single white) (single white) within
+          (record { least = always; most = always }) (omega arith) (itself-lies white))
       | inr bare ↦ rw bare (itself-lies white)
     ]
+  where
+    always : IsIn full_alpha 255
+    always = record { least = omega arith; most = omega arith }
 
 boxes-lie : (outer inner : ℕ → LooseState) (column row : ℕ) (order : List ℕ) (a b : Tint)
     → All (λ box. LooseStateWithin (outer box) (inner box)) order → LiesIn a b

@@ -1,8 +1,9 @@
 -- Proofs of the laws of the windows of a scene.
 use Rattle.std.proofs.Common.{◌≡◌, ℕ, ◌<◌, zero, suc, Bool, true, false, List, [], ◌∷◌, length, refl, arith}
 use Rattle.std.specs.Prelude.{ℤ, pos, ◌≤ℤ◌, Option, Some, None, slice_get}
+use Rattle.std.proofs.lemmas.Int.{ints}
 use Rattle.page_model.specs.declared.setup.Setup.{Setup}
-use Rattle.page_model.specs.declared.colour.Rgb.{Rgb}
+use Rattle.page_model.specs.declared.colour.Rgba.{Rgba}
 use Rattle.page_model.specs.declared.easing.Easing.TheVariants.{Linear}
 use Rattle.page_model.specs.declared.property.Prop.{Prop}
 use Rattle.page_model.specs.declared.property.Prop.TheVariants.{Background, Opacity, Visibility, Left, Top, Width, Height}
@@ -10,10 +11,10 @@ use Rattle.page_model.specs.declared.property.Value.{Value}
 use Rattle.page_model.specs.declared.scene.Layer.{Layer}
 use Rattle.page_model.specs.declared.scene.Scene.{Scene}
 use Rattle.page_model.specs.Colour.{Run, IsRunIn, painting_of}
-use Rattle.page_model.specs.Enclosure.{Kind, Loose, LooseState, LooseRun, Sureness, IsLooseOn, IsShownSurely, IsSurelyShownWith, IsLooseStateAt}
+use Rattle.page_model.specs.Enclosure.{Kind, Loose, LooseState, LooseRun, Sureness, IsLooseChannelOn, IsLooseOn, IsShownSurely, IsSurelyShownWith, IsLooseStateAt}
 use Rattle.page_model.specs.Fraction.{zero_of_one}
-use Rattle.page_model.specs.LayerAt.{Course, still, moving, State, course_of, red_of, green_of, blue_of, alpha_of, length_of, visible_of, IsValueOn, IsShownWith, IsStateAt}
-use Rattle.page_model.specs.Slot.{Slot, channel, alpha, position, extent}
+use Rattle.page_model.specs.LayerAt.{Course, still, moving, State, course_of, red_of, green_of, blue_of, cover_of, alpha_of, length_of, visible_of, IsChannelOn, IsValueOn, IsShownWith, IsStateAt}
+use Rattle.page_model.specs.Slot.{Shade, Slot, cover, alpha, position, extent}
 use Rattle.page_model.specs.TintOf.{IsLooseRunIn, tints_of}
 use Rattle.page_model.specs.ValidScene.{IsValid}
 use Rattle.tint_laws.specs.NestLaws.{PixelsAreOf}
@@ -22,6 +23,7 @@ use Rattle.tint_laws.specs.TintLaws.{StateWithin}
 use Rattle.tint_laws.specs.WindowLaws.{BadWindowsLieBetween}
 use Rattle.tint_laws.proofs.CourseLemmas.{IsGoodCourse, good_course_of}
 use Rattle.tint_laws.proofs.NestLemmas.{bad_windows_nest}
+use Rattle.curve_laws.proofs.ChannelLemmas.{loose_channels_nest}
 use Rattle.curve_laws.proofs.SlotLemmas.{loose_slots_nest, loose_shown_nests}
 use Rattle.tint_laws.proofs.TintLemmas.{tints_hold_colours}
 
@@ -32,6 +34,13 @@ value-within kind slot part (still x) loose v good is value =
     loose_slots_nest.exact_value kind slot Linear tt zero_of_one (part x) (part x) loose v is value
 value-within kind slot part (moving interval) loose v good is value =
     loose_slots_nest.exact_value kind slot interval.easing good interval.distance (part interval.from) (part interval.to) loose v is value
+
+-- a channel
+channel-within : (kind : Kind) (part : Value → Shade) (course : Course) (loose : Loose) (v : ℤ) → IsGoodCourse course
+    → IsLooseChannelOn kind part course loose → IsChannelOn part course v → IsWithin loose v
+channel-within kind part (still x) loose v good is value = rw (is, value) (record { at_least = omega (arith, ints); at_most = omega (arith, ints) })
+channel-within kind part (moving interval) loose v good is value =
+    loose_channels_nest.exact_value kind interval.easing good interval.distance (part interval.from) (part interval.to) loose v is value
 
 pub loose-most : (kind : Kind) (slot : Slot) (part : Value → ℤ) (course : Course) (loose : Loose) → IsLooseOn kind slot part course loose
     → loose.hi ≤ℤ slot.greatest
@@ -44,7 +53,7 @@ still-agrees : (kind : Kind) (visible : Bool) (shown : Sureness) (seen : Bool) �
 still-agrees kind true shown seen is value = rw (is, value) tt
 still-agrees kind false shown seen is value = rw (is, value) tt
 
-shown-within : (kind : Kind) (colour : Option Rgb) (course : Course) (shown : Sureness) (seen : Bool) → IsGoodCourse course
+shown-within : (kind : Kind) (colour : Option Rgba) (course : Course) (shown : Sureness) (seen : Bool) → IsGoodCourse course
     → IsSurelyShownWith kind colour course shown → IsShownWith colour course seen → Agrees shown seen
 shown-within kind None course shown seen good is value = rw (is, value) tt
 shown-within kind (Some colour) (still x) shown seen good is value = still-agrees kind (visible_of x) shown seen is value
@@ -60,9 +69,11 @@ state-within kind scene setup frame number layer loose state valid is first seco
     let background = course_of scene setup frame layer Background in
     let opacity = course_of scene setup frame layer Opacity in
     record {
-      red = value-within kind channel red_of background loose.red (pos state.red) (good Background) first.is_red second.is_red;
-      green = value-within kind channel green_of background loose.green (pos state.green) (good Background) first.is_green second.is_green;
-      blue = value-within kind channel blue_of background loose.blue (pos state.blue) (good Background) first.is_blue second.is_blue;
+      red = channel-within kind red_of background loose.red (pos state.red) (good Background) first.is_red second.is_red;
+      green = channel-within kind green_of background loose.green (pos state.green) (good Background) first.is_green second.is_green;
+      blue = channel-within kind blue_of background loose.blue (pos state.blue) (good Background) first.is_blue second.is_blue;
+      cover = value-within kind cover cover_of background loose.cover (pos state.cover) (good Background) first.is_cover second.is_cover;
+      solid = loose-most kind cover cover_of background loose.cover first.is_cover;
       alpha = value-within kind alpha alpha_of opacity loose.alpha (pos state.alpha) (good Opacity) first.is_alpha second.is_alpha;
       opaque = loose-most kind alpha alpha_of opacity loose.alpha first.is_alpha;
       shown = shown-within kind layer.colour (course_of scene setup frame layer Visibility) loose.shown state.shown (good Visibility) first.is_shown second.is_shown;

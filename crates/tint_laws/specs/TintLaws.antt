@@ -11,11 +11,13 @@ use Rattle.tint_laws.specs.NestLaws.{LiesIn}
 use Rattle.curve_laws.specs.SlotLaws.{IsWithin, LooseWithin, Agrees, IsLooser}
 use Rattle.flash_laws.specs.SureLaws.{IsOf}
 
--- a state lies in a loose one, whose alpha is at most 255
+-- a state lies in a loose one, whose cover and alpha are at most 255
 pub record StateWithin (loose : LooseState) (state : State) : Type 0 where
   pub red : IsWithin loose.red (pos state.red)
   pub green : IsWithin loose.green (pos state.green)
   pub blue : IsWithin loose.blue (pos state.blue)
+  pub cover : IsWithin loose.cover (pos state.cover)
+  pub solid : loose.cover.hi ≤ℤ pos 255
   pub alpha : IsWithin loose.alpha (pos state.alpha)
   pub opaque : loose.alpha.hi ≤ℤ pos 255
   pub shown : Agrees loose.shown state.shown
@@ -42,6 +44,8 @@ pub record LooseStateWithin (outer inner : LooseState) : Type 0 where
   pub red : LooseIn outer.red inner.red
   pub green : LooseIn outer.green inner.green
   pub blue : LooseIn outer.blue inner.blue
+  pub cover : LooseIn outer.cover inner.cover
+  pub solid : outer.cover.hi ≤ℤ pos 255
   pub alpha : LooseIn outer.alpha inner.alpha
   pub opaque : outer.alpha.hi ≤ℤ pos 255
   pub shown : IsLooser outer.shown inner.shown

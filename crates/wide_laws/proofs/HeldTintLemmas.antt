@@ -1,5 +1,5 @@
 -- Blending lies between its ends, a box is painted where it surely is and not where it surely isn't, and so a tint holds the colour.
-use Rattle.std.proofs.Common.{◌≡◌, ◌⊎◌, ℕ, suc, ◌+◌, ◌-◌, ◌*◌, ◌≤◌, min, max, ℤ, pos, negsuc, ◌+ℤ◌, ◌≤ℤ◌, ◌<ℤ◌, int_le, int_lt, Bool, true, false, ◌&&◌, List, [], ◌∷◌, All, fold, get_or, is_some, if◌then◌else◌, arith, refl, sym, ap, inl, inr, mul-le-mul_right}
+use Rattle.std.proofs.Common.{◌≡◌, ◌⊎◌, ℕ, suc, ◌+◌, ◌-◌, ◌*◌, ◌≤◌, min, max, ℤ, pos, negsuc, ◌+ℤ◌, ◌≤ℤ◌, ◌<ℤ◌, int_le, int_lt, Bool, true, false, ◌&&◌, List, [], ◌∷◌, All, fold, get_or, is_some, if◌then◌else◌, arith, refl, sym, ap, inl, inr, mul-le-mul, mul-le-mul_right}
 use Rattle.std.proofs.lemmas.Bool.{and_from, and_left, and_right, cases_lt}
 use Rattle.std.proofs.lemmas.Int.{ints}
 use Rattle.std.proofs.lemmas.List.Elements.{All-contains_itself}
@@ -7,16 +7,16 @@ use Rattle.std.proofs.lemmas.Option.{slice_get_cases}
 use Rattle.page_model.specs.declared.colour.Rgb.{Rgb}
 use Rattle.page_model.specs.declared.colour.Tint.{Tint}
 use Rattle.page_model.specs.declared.property.Value.{Value}
-use Rattle.page_model.specs.Colour.{blended, body_colour, colour_of, covers, over, paint_box, spans}
+use Rattle.page_model.specs.Colour.{blended, body_colour, combined, covers, over, paint_box, spans}
 use Rattle.page_model.specs.Enclosure.{IsLooseOn, Kind, Loose, LooseState, Sureness, maybe, surely, surely_not, wide}
-use Rattle.page_model.specs.LayerAt.{Course, State, alpha_of, moving, still}
+use Rattle.page_model.specs.LayerAt.{Course, State, alpha_of, cover_of, moving, still}
 use Rattle.page_model.specs.Progress.{above_zero}
 use Rattle.page_model.specs.Red.{white}
-use Rattle.page_model.specs.Slot.{Slot, alpha}
-use Rattle.page_model.specs.TintOf.{Span, blended_span, both, covers_surely, greatest_of, least_of, painted_where, single, span_of, spans_surely, tint_box, tint_by, tint_ground, tint_hull, tint_over}
+use Rattle.page_model.specs.Slot.{Slot, alpha, cover}
+use Rattle.page_model.specs.TintOf.{Span, blended_span, both, combined_span, covers_surely, full_alpha, greatest_of, least_of, painted_where, single, span_of, spans_surely, tint_box, tint_by, tint_ground, tint_hull, tint_over}
 use Rattle.wide_laws.specs.LooseLaws.{Holds, HoldsState}
 use Rattle.wide_laws.specs.HeldTintLaws.{IsHeld, IsInSpan, IsInTint, TintHoldsColour, WideTintHoldsColour}
-use Rattle.wide_laws.proofs.PaintLemmas.{blend-grows}
+use Rattle.wide_laws.proofs.PaintLemmas.{blend-grows, combined-small}
 use Rattle.wide_laws.proofs.WideLemmas.{Tells, tells-surely, tells-surely_not, wide-holds}
 
 -- with more alpha a blend goes towards its source
@@ -101,13 +101,26 @@ alpha-within : (z : ℤ) → z ≤ℤ pos 255 → above_zero z ≤ 255
 alpha-within (pos m) h = omega (arith, ints)
 alpha-within (negsuc m) h = omega arith
 
-over-in : (loose : LooseState) (state : State) (tint : Tint) (c : Rgb) → IsHeld loose state → IsInTint tint c → IsInTint (tint_over loose tint) (over state c)
-over-in loose state tint c held inside =
-    let alpha = span-in loose.alpha state.alpha held.holds.alpha in
-    let within = alpha-within loose.alpha.hi held.alpha in record {
-      red = blend-in _ _ _ state.red state.alpha c.r (span-in loose.red state.red held.holds.red) alpha inside.red within;
-      green = blend-in _ _ _ state.green state.alpha c.g (span-in loose.green state.green held.holds.green) alpha inside.green within;
-      blue = blend-in _ _ _ state.blue state.alpha c.b (span-in loose.blue state.blue held.holds.blue) alpha inside.blue within;
+-- more cover or more alpha is more of both together
+combined-grows : (c d a b : ℕ) → c ≤ d → a ≤ b → combined c a ≤ combined d b
+combined-grows c d a b h k = let more = mul-le-mul h k in omega arith
+
+combined-in :
+    (cover alpha : Span) (c a : ℕ) → IsInSpan cover c → IsInSpan alpha a → IsInSpan (combined_span cover alpha) (combined c a)
+combined-in cover alpha c a hc ha = record {
+  least = combined-grows cover.lo c alpha.lo a hc.least ha.least;
+  greatest = combined-grows c cover.hi a alpha.hi hc.greatest ha.greatest;
+}
+
+over-in :
+    (loose : LooseState) (state : State) (alpha : Span) (a : ℕ) (tint : Tint) (c : Rgb) → IsHeld loose state → IsInSpan alpha a
+    → alpha.hi ≤ 255 → IsInTint tint c → IsInTint (tint_over loose alpha tint) (over state a c)
+over-in loose state alpha a tint c held of small inside =
+    let both = combined-in (span_of loose.cover) alpha state.cover a (span-in loose.cover state.cover held.holds.cover) of in
+    let within = combined-small (above_zero loose.cover.hi) alpha.hi (alpha-within loose.cover.hi held.cover) small in record {
+      red = blend-in _ _ _ state.red (combined state.cover a) c.r (span-in loose.red state.red held.holds.red) both inside.red within;
+      green = blend-in _ _ _ state.green (combined state.cover a) c.g (span-in loose.green state.green held.holds.green) both inside.green within;
+      blue = blend-in _ _ _ state.blue (combined state.cover a) c.b (span-in loose.blue state.blue held.holds.blue) both inside.blue within;
     }
 
 -- how surely both of two things are so
@@ -204,10 +217,11 @@ box-in :
     → IsInTint tint c → IsInTint (tint_box loose column row tint box) (paint_box states column row c box)
 box-in loose states column row tint c box held inside =
     where-in (both (loose box).shown (covers_surely (loose box) column row)) ((states box).shown && covers (states box) column row)
-    (tint_over (loose box) tint) tint (over (states box) c) c
+    (tint_over (loose box) (span_of (loose box).alpha) tint) tint (over (states box) (states box).alpha c) c
     (tells-both (loose box).shown (covers_surely (loose box) column row) (states box).shown (covers (states box) column row)
     (record { visible = held.holds.visible; hidden = held.holds.hidden }) (tells-covers (loose box) (states box) column row held.holds))
-    (over-in (loose box) (states box) tint c held inside) inside
+    (over-in (loose box) (states box) (span_of (loose box).alpha) (states box).alpha tint c held
+    (span-in (loose box).alpha (states box).alpha held.holds.alpha) (alpha-within (loose box).alpha.hi held.alpha) inside) inside
 
 fold-in :
     (loose : ℕ → LooseState) (states : ℕ → State) (column row : ℕ) (tint : Tint) (c : Rgb) (order : List ℕ)
@@ -235,13 +249,10 @@ tint-holds scene loose states column row valid held =
     let body = held 0 (let some = valid.some_layer in omega arith) in
     fold-in loose states column row (tint_ground scene loose) _ scene.order
     (λ k d within. held (get_or scene.order k d) ((valid.order.boxes (get_or scene.order k d)).0 (All-contains_itself scene.order k d within)).1)
-    (chosen-in (is_some (body_colour scene)) (tint_by (span_of (loose 0).red) (span_of (loose 0).green) (span_of (loose 0).blue)) (single white)
-    (colour_of (states 0)) white
-    (record {
-      red = span-in (loose 0).red (states 0).red body.holds.red;
-      green = span-in (loose 0).green (states 0).green body.holds.green;
-      blue = span-in (loose 0).blue (states 0).blue body.holds.blue;
-    }) (single-in white))
+    (chosen-in (is_some (body_colour scene)) (tint_over (loose 0) full_alpha (single white)) (single white)
+    (over (states 0) 255 white) white
+    (over-in (loose 0) (states 0) full_alpha 255 (single white) white body (record { least = omega arith; greatest = omega arith })
+    (omega arith) (single-in white)) (single-in white))
 
 -- a loose value is in the range of its slot
 loose-at_most : (kind : Kind) (slot : Slot) (part : Value → ℤ) (course : Course) (loose : Loose) → IsLooseOn kind slot part course loose → loose.hi ≤ℤ slot.greatest
@@ -256,6 +267,7 @@ wide_tint-holds scene setup start loose run frame column row valid known exact l
           let by_kind = known frame number there.0 low high there.2 in
           record {
             holds = wide-holds scene setup frame there.0 (run frame number) (loose frame number) (exact frame number there.0 low high there.2) by_kind;
+            cover = loose-at_most wide cover cover_of _ (loose frame number).cover by_kind.is_cover;
             alpha = loose-at_most wide alpha alpha_of _ (loose frame number).alpha by_kind.is_alpha;
           }
       | inr past ↦ absurd (let far = past.0 in omega arith)

@@ -1,8 +1,8 @@
 -- By each kind a slot has one loose value, and a layer one loose state; and it is impossible that there is none.
-use Rattle.std.proofs.Common.{◌≡◌, ℕ, ◌^◌, ℤ, pos, negsuc, ◌+ℤ◌, ◌-ℤ◌, ◌*ℤ◌, ◌≤ℤ◌, Bool, true, false, Option, Some, None, nat_abs, arith, refl}
+use Rattle.std.proofs.Common.{◌≡◌, ℕ, ◌^◌, ℤ, pos, negsuc, ◌+ℤ◌, ◌-ℤ◌, ◌*ℤ◌, ◌≤ℤ◌, Bool, true, false, Option, Some, None, nat_abs, arith, refl, ap}
 use Rattle.std.specs.Int.{int_max, int_min}
-use Rattle.std.proofs.lemmas.Int.{ints, clamps}
-use Rattle.page_model.specs.declared.colour.Rgb.{Rgb}
+use Rattle.std.proofs.lemmas.Int.{ints, by_lt_z, clamps}
+use Rattle.page_model.specs.declared.colour.Rgba.{Rgba}
 use Rattle.page_model.specs.declared.easing.Easing.{Easing}
 use Rattle.page_model.specs.declared.easing.Easing.TheVariants.{Linear, Steps, Cubic}
 use Rattle.page_model.specs.declared.property.Prop.TheVariants.{Background, Opacity, Visibility, Left, Top, Width, Height}
@@ -10,15 +10,15 @@ use Rattle.page_model.specs.declared.property.Value.{Value}
 use Rattle.page_model.specs.declared.scene.Layer.{Layer}
 use Rattle.page_model.specs.declared.scene.Scene.{Scene}
 use Rattle.page_model.specs.declared.setup.Setup.{Setup}
-use Rattle.page_model.specs.Enclosure.{AllReach, AllReachInside, IsHiddenSurely, IsLoose, IsLooseOn, IsLooseStateAt, IsShownSurely, IsSurelyShownOn, IsSurelyShownWith, Kind, Loose, LooseState, SomeReach, SomeReachInside, Sureness, exact, kind_at, maybe, own, own_greatest, own_least, surely, surely_not, wide}
+use Rattle.page_model.specs.Enclosure.{AllGone, AllReach, AllReachInside, AreLevels, IsHiddenSurely, IsLoose, IsLooseChannel, IsLooseChannelOn, IsLooseOn, IsLooseStateAt, IsShownSurely, IsSurelyShownOn, IsSurelyShownWith, Kind, Loose, LooseState, SomeGone, SomeReach, SomeReachInside, Sureness, any_level, exact, kind_at, maybe, one_value, own, own_greatest, own_least, surely, surely_not, wide}
 use Rattle.page_model.specs.Fraction.{Fraction, zero_of_one}
-use Rattle.page_model.specs.LayerAt.{Course, alpha_of, blue_of, course_of, green_of, length_of, moving, red_of, still, visible_of}
-use Rattle.page_model.specs.Slot.{Slot, alpha, channel, extent, position, twice_the_way, twice_to_cover}
+use Rattle.page_model.specs.LayerAt.{Course, alpha_of, blue_of, course_of, cover_of, green_of, length_of, moving, red_of, still, visible_of}
+use Rattle.page_model.specs.Slot.{Shade, Slot, alpha, cover, due, extent, fading, gain, position, own_level, twice_the_way, twice_to_cover}
 use Rattle.page_model.specs.Time.{window_of}
-use Rattle.wide_laws.specs.LooseLaws.{LooseRunExists, LooseStateIsUnique, one_value}
+use Rattle.wide_laws.specs.LooseLaws.{LooseRunExists, LooseStateIsUnique}
 use Rattle.state_laws.specs.RunLaws.{IsMet}
-use Rattle.state_laws.proofs.RunLemmas.{range-met, window-met}
-use Rattle.state_laws.proofs.UniqueLemmas.{IsAntitone, Reaches-antitone, greatest-unique, times-mono, twice_to_cover-mono}
+use Rattle.state_laws.proofs.RunLemmas.{level-met, range-met, window-met}
+use Rattle.state_laws.proofs.UniqueLemmas.{IsAntitone, Reaches-antitone, greatest-unique, level-unique, times-mono, twice_to_cover-mono}
 
 -- where less is asked for, it is reached too: by all values of a kind, and by some
 more-mono : (b c : ℤ) (t : ℕ) → b ≤ℤ c → (pos (2 ^ 16) *ℤ b +ℤ pos t) ≤ℤ (pos (2 ^ 16) *ℤ c +ℤ pos t)
@@ -127,6 +127,86 @@ loose_on-met : (kind : Kind) (slot : Slot) (part : Value → ℤ) (course : Cour
 loose_on-met kind slot part (still x) some = loose-met kind slot Linear zero_of_one (part x) (part x) some
 loose_on-met kind slot part (moving i) some = loose-met kind slot i.easing i.distance (part i.from) (part i.to) some
 
+-- the levels that all values of a kind round to, and those that some do
+abbrev pub AllLevel : Kind → Easing → Fraction → Shade → Shade → ℤ → Type 0
+AllLevel kind easing at from to v = AllReach kind easing at (gain from to v) (due from v)
+
+abbrev pub SomeLevel : Kind → Easing → Fraction → Shade → Shade → ℤ → Type 0
+SomeLevel kind easing at from to v = SomeReach kind easing at (gain from to v) (due from v)
+
+levels-unique :
+    (kind : Kind) (easing : Easing) (at : Fraction) (from to : Shade) (a b : Loose) → AreLevels kind easing at from to a
+    → AreLevels kind easing at from to b → a ≡ b
+levels-unique kind easing at from to a b first second =
+    same_loose a b
+    (level-unique (AllLevel kind easing at from to) a.lo b.lo first.least second.least)
+    (level-unique (SomeLevel kind easing at from to) a.hi b.hi first.greatest second.greatest)
+
+-- a loose channel is one: if two weren't, no value of the set would be gone
+loose_channel-apart :
+    (kind : Kind) (easing : Easing) (at : Fraction) (from to : Shade) (a b : Loose) → IsLooseChannel kind easing at from to a
+    → IsLooseChannel kind easing at from to b → (a ≡ b → ⊥) → ⊥
+loose_channel-apart kind easing at from to a b first second apart =
+    let some_left : AllGone kind easing at from to → ⊥ = λ all. apart (same_as (first.gone all) (second.gone all)) in
+    let all_left : SomeGone kind easing at from to → ⊥ = λ some. apart (same_as (first.mixed some some_left) (second.mixed some some_left)) in
+    apart (levels-unique kind easing at from to a b (first.left all_left) (second.left all_left))
+  where
+    same_as : {x y z : Loose} → x ≡ z → y ≡ z → x ≡ y
+    same_as e f = cc
+
+decided_loose : (a b : Loose) → ((a ≡ b → ⊥) → ⊥) → a ≡ b
+decided_loose a b known =
+    same_loose a b (number a.lo b.lo (λ apart. known (λ e. apart (ap (λ (l : Loose). l.lo) e))))
+    (number a.hi b.hi (λ apart. known (λ e. apart (ap (λ (l : Loose). l.hi) e))))
+  where
+    number : (v w : ℤ) → ((v ≡ w → ⊥) → ⊥) → v ≡ w
+    number v w known =
+        by_lt_z v w (λ less. absurd (known (λ e. omega (arith, ints))))
+        (λ least. by_lt_z w v (λ less. absurd (known (λ e. omega (arith, ints)))) (λ other. omega (arith, ints)))
+
+pub loose_channel-unique :
+    (kind : Kind) (easing : Easing) (at : Fraction) (from to : Shade) (a b : Loose) → IsLooseChannel kind easing at from to a
+    → IsLooseChannel kind easing at from to b → a ≡ b
+loose_channel-unique kind easing at from to a b first second =
+    decided_loose a b (loose_channel-apart kind easing at from to a b first second)
+
+-- and it is impossible that there is none
+loose_channel-met : (kind : Kind) (easing : Easing) (at : Fraction) (from to : Shade) → IsMet (IsLooseChannel kind easing at from to)
+loose_channel-met kind easing at from to none =
+    none_left (λ some. none_gone some (λ all. none (one_value (pos 0)) (record {
+      gone = λ again. refl;
+      mixed = λ some left. absurd (left all);
+      left = λ left. absurd (left some);
+    })))
+  where
+    none_gone : SomeGone kind easing at from to → (AllGone kind easing at from to → ⊥) → ⊥
+    none_gone some left = none any_level (record {
+      gone = λ all. absurd (left all);
+      mixed = λ some left. refl;
+      left = λ left. absurd (left some);
+    })
+
+    none_left : (SomeGone kind easing at from to → ⊥) → ⊥
+    none_left left =
+        level-met (AllLevel kind easing at from to) (λ lo least.
+        level-met (SomeLevel kind easing at from to) (λ hi greatest.
+        none (record { lo = lo; hi = hi }) (record {
+          gone = λ all. absurd (left (all-some kind easing at (fading from to) (pos from.alpha) all));
+          mixed = λ some others. absurd (left some);
+          left = λ none_gone. record { least = least; greatest = greatest };
+        })))
+
+pub loose_channel_on-unique :
+    (kind : Kind) (part : Value → Shade) (course : Course) (a b : Loose) → IsLooseChannelOn kind part course a
+    → IsLooseChannelOn kind part course b → a ≡ b
+loose_channel_on-unique kind part (still x) a b first second = cc
+loose_channel_on-unique kind part (moving i) a b first second =
+    loose_channel-unique kind i.easing i.distance (part i.from) (part i.to) a b first second
+
+loose_channel_on-met : (kind : Kind) (part : Value → Shade) (course : Course) → IsMet (IsLooseChannelOn kind part course)
+loose_channel_on-met kind part (still x) none = none (one_value (own_level (part x))) refl
+loose_channel_on-met kind part (moving i) none = loose_channel-met kind i.easing i.distance (part i.from) (part i.to) none
+
 -- how surely something is hidden
 hidden-unique :
     (Each Any : Type 0) (s t : Sureness) → (Each → Any) → IsHiddenSurely Each Any s → IsHiddenSurely Each Any t → s ≡ t
@@ -165,22 +245,23 @@ shown_on-met : (kind : Kind) (course : Course) → IsMet (IsSurelyShownOn kind c
 shown_on-met kind (still x) = surely_shown-met kind Linear zero_of_one (visible_of x) (visible_of x)
 shown_on-met kind (moving i) = surely_shown-met kind i.easing i.distance (visible_of i.from) (visible_of i.to)
 
-shown_with-unique : (kind : Kind) (colour : Option Rgb) (course : Course) (s t : Sureness) → IsSurelyShownWith kind colour course s → IsSurelyShownWith kind colour course t → s ≡ t
+shown_with-unique : (kind : Kind) (colour : Option Rgba) (course : Course) (s t : Sureness) → IsSurelyShownWith kind colour course s → IsSurelyShownWith kind colour course t → s ≡ t
 shown_with-unique kind None course s t first second = cc
 shown_with-unique kind (Some c) course s t first second = shown_on-unique kind course s t first second
 
-shown_with-met : (kind : Kind) (colour : Option Rgb) (course : Course) → IsMet (IsSurelyShownWith kind colour course)
+shown_with-met : (kind : Kind) (colour : Option Rgba) (course : Course) → IsMet (IsSurelyShownWith kind colour course)
 shown_with-met kind None course none = none surely_not refl
 shown_with-met kind (Some c) course none = shown_on-met kind course none
 
 -- a layer's state
 same_state :
-    (s t : LooseState) → s.red ≡ t.red → s.green ≡ t.green → s.blue ≡ t.blue → s.alpha ≡ t.alpha → s.shown ≡ t.shown → s.left ≡ t.left
+    (s t : LooseState) → s.red ≡ t.red → s.green ≡ t.green → s.blue ≡ t.blue → s.cover ≡ t.cover → s.alpha ≡ t.alpha → s.shown ≡ t.shown → s.left ≡ t.left
     → s.top ≡ t.top → s.width ≡ t.width → s.height ≡ t.height → s ≡ t
-same_state s t r g b a v l u w h = λ i. record {
+same_state s t r g b c a v l u w h = λ i. record {
   red = r i;
   green = g i;
   blue = b i;
+  cover = c i;
   alpha = a i;
   shown = v i;
   left = l i;
@@ -192,9 +273,10 @@ same_state s t r g b a v l u w h = λ i. record {
 pub loose_state-unique : LooseStateIsUnique
 loose_state-unique kind scene setup frame layer s t first second =
     same_state s t
-    (loose_on-unique kind channel red_of _ s.red t.red first.is_red second.is_red)
-    (loose_on-unique kind channel green_of _ s.green t.green first.is_green second.is_green)
-    (loose_on-unique kind channel blue_of _ s.blue t.blue first.is_blue second.is_blue)
+    (loose_channel_on-unique kind red_of _ s.red t.red first.is_red second.is_red)
+    (loose_channel_on-unique kind green_of _ s.green t.green first.is_green second.is_green)
+    (loose_channel_on-unique kind blue_of _ s.blue t.blue first.is_blue second.is_blue)
+    (loose_on-unique kind cover cover_of _ s.cover t.cover first.is_cover second.is_cover)
     (loose_on-unique kind alpha alpha_of _ s.alpha t.alpha first.is_alpha second.is_alpha)
     (shown_with-unique kind layer.colour _ s.shown t.shown first.is_shown second.is_shown)
     (loose_on-unique kind position length_of _ s.left t.left first.is_left second.is_left)
@@ -205,9 +287,10 @@ loose_state-unique kind scene setup frame layer s t first second =
 loose_state-met : (kind : Kind) (scene : Scene) (setup : Setup) (frame : ℕ) (layer : Layer) → IsMet (IsLooseStateAt kind scene setup frame layer)
 loose_state-met kind scene setup frame layer none =
     let fill = course_of scene setup frame layer Background in
-    loose_on-met kind channel red_of fill (omega (arith, ints)) λ r red.
-    loose_on-met kind channel green_of fill (omega (arith, ints)) λ g green.
-    loose_on-met kind channel blue_of fill (omega (arith, ints)) λ b blue.
+    loose_channel_on-met kind red_of fill λ r red.
+    loose_channel_on-met kind green_of fill λ g green.
+    loose_channel_on-met kind blue_of fill λ b blue.
+    loose_on-met kind cover cover_of fill (omega (arith, ints)) λ c covered.
     loose_on-met kind alpha alpha_of (course_of scene setup frame layer Opacity) (omega (arith, ints)) λ a opaque.
     shown_with-met kind layer.colour (course_of scene setup frame layer Visibility) λ s shown.
     loose_on-met kind position length_of (course_of scene setup frame layer Left) (omega (arith, ints)) λ x left.
@@ -215,11 +298,12 @@ loose_state-met kind scene setup frame layer none =
     loose_on-met kind extent length_of (course_of scene setup frame layer Width) (omega (arith, ints)) λ w width.
     loose_on-met kind extent length_of (course_of scene setup frame layer Height) (omega (arith, ints)) λ h height.
     none
-    (record { red = r; green = g; blue = b; alpha = a; shown = s; left = x; top = y; width = w; height = h })
+    (record { red = r; green = g; blue = b; cover = c; alpha = a; shown = s; left = x; top = y; width = w; height = h })
     (record {
       is_red = red;
       is_green = green;
       is_blue = blue;
+      is_cover = covered;
       is_alpha = opaque;
       is_shown = shown;
       is_left = left;
@@ -234,6 +318,7 @@ nothing = record {
   red = one_value (pos 0);
   green = one_value (pos 0);
   blue = one_value (pos 0);
+  cover = one_value (pos 0);
   alpha = one_value (pos 0);
   shown = surely_not;
   left = one_value (pos 0);

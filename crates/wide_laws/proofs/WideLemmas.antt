@@ -2,19 +2,20 @@
 use Rattle.std.proofs.Common.{◌≡◌, ◌↔◌, ℕ, zero, suc, ◌+◌, ◌*◌, ◌^◌, ℤ, pos, negsuc, neg_ℤ, ◌+ℤ◌, ◌-ℤ◌, ◌*ℤ◌, ◌≤ℤ◌, ◌<ℤ◌, Bool, true, false, Option, Some, None, nat_abs, if◌then◌else◌, arith, refl, ap}
 use Rattle.std.proofs.lemmas.Int.{ints, by_lt_z}
 use borrow.Author.Differences.{up, down, product_is, sum_is_lem}
-use Rattle.page_model.specs.declared.colour.Rgb.{Rgb}
+use Rattle.page_model.specs.declared.colour.Rgba.{Rgba}
 use Rattle.page_model.specs.declared.easing.Easing.{Easing}
 use Rattle.page_model.specs.declared.easing.Easing.TheVariants.{Linear, Steps, Cubic}
 use Rattle.page_model.specs.declared.property.Prop.TheVariants.{Background, Opacity, Visibility, Left, Top, Width, Height}
 use Rattle.page_model.specs.declared.property.Value.{Value}
 use Rattle.page_model.specs.Curve.{CurveReaches, Reaches, curve_height}
-use Rattle.page_model.specs.Enclosure.{AllReach, AllReachInside, IsHiddenSurely, IsLoose, IsLooseOn, IsShownSurely, IsSurelyShownOn, IsSurelyShownWith, Kind, Loose, SomeReach, SomeReachInside, Sureness, exact, is_inner, maybe, surely, surely_not, wide}
+use Rattle.page_model.specs.Enclosure.{AllGone, AllReach, AllReachInside, AreLevels, IsHiddenSurely, IsLoose, IsLooseChannel, IsLooseChannelOn, IsLooseOn, IsShownSurely, IsSurelyShownOn, IsSurelyShownWith, Kind, Loose, SomeGone, SomeReach, SomeReachInside, Sureness, any_level, exact, is_inner, maybe, one_value, surely, surely_not, wide}
 use Rattle.page_model.specs.Fraction.{Fraction, zero_of_one}
-use Rattle.page_model.specs.LayerAt.{Course, IsShownOn, IsShownWith, IsValueOn, alpha_of, blue_of, course_of, green_of, length_of, moving, red_of, still, visible_of}
-use Rattle.page_model.specs.Slot.{IsGreatestIn, IsHiddenExactlyWhere, IsShownValue, IsSlotValue, RoundsTo, Slot, alpha, channel, extent, position, twice_the_way, twice_to_cover}
-use Rattle.wide_laws.specs.LooseLaws.{ExactKindIsExact, Holds, WideHoldsExact, one_value, sure_of}
-use Rattle.wide_laws.proofs.LooseLemmas.{AllRound, SomeRound, SomeRound-antitone}
-use Rattle.state_laws.proofs.UniqueLemmas.{IsAntitone, RoundsTo-antitone}
+use Rattle.page_model.specs.LayerAt.{Course, IsChannelOn, IsShownOn, IsShownWith, IsValueOn, alpha_of, blue_of, course_of, cover_of, green_of, length_of, moving, red_of, still, visible_of}
+use Rattle.page_model.specs.Slot.{IsChannelValue, IsGone, IsGreatestIn, IsGreatestLevel, IsHiddenExactlyWhere, IsShownValue, IsSlotValue, RoundsTo, RoundsToLevel, Shade, Slot, alpha, cover, due, extent, fading, gain, position, twice_the_way, twice_to_cover}
+use Rattle.wide_laws.specs.LooseLaws.{ExactKindIsExact, Holds, WideHoldsExact, sure_of}
+use Rattle.wide_laws.proofs.LooseLemmas.{AllLevel, AllRound, SomeLevel, SomeRound, SomeRound-antitone}
+use Rattle.state_laws.proofs.RunLemmas.{channel-at_least, channel-at_most}
+use Rattle.state_laws.proofs.UniqueLemmas.{IsAntitone, RoundsTo-antitone, level-mono}
 
 -- by the exact kind all and some values are the one
 exact-all : (easing : Easing) (at : Fraction) (a b : ℤ) → AllReach exact easing at a b ↔ Reaches easing at a b
@@ -60,6 +61,34 @@ exact-loose_on : (slot : Slot) (part : Value → ℤ) (course : Course) (v : ℤ
 exact-loose_on slot part (still x) v good = exact-loose slot Linear zero_of_one (part x) (part x) v good
 exact-loose_on slot part (moving i) v good = exact-loose slot i.easing i.distance (part i.from) (part i.to) v good
 
+-- of a channel too
+level-same : (Reaches Holds : ℤ → Type 0) (v : ℤ) → ((w : ℤ) → Reaches w ↔ Holds w) → IsGreatestLevel Holds v → IsGreatestLevel Reaches v
+level-same Reaches Holds v same good = record {
+  at_least = good.at_least;
+  at_most = good.at_most;
+  reached = λ some. (same v).1 (good.reached some);
+  greatest = λ w above most reaches. good.greatest w above most ((same w).0 reaches);
+}
+
+exact-loose_channel :
+    (easing : Easing) (at : Fraction) (from to : Shade) (v : ℤ) → IsChannelValue easing at from to v
+    → IsLooseChannel exact easing at from to (one_value v)
+exact-loose_channel easing at from to v good = record {
+  gone = λ all. ap one_value (good.gone ((exact-all easing at (fading from to) (pos from.alpha)).0 all));
+  mixed = λ some left. absurd (left ((exact-all easing at (fading from to) (pos from.alpha)).1 ((exact-some easing at (fading from to) (pos from.alpha)).0 some)));
+  left = λ left.
+      let level = good.left (λ gone. left ((exact-some easing at (fading from to) (pos from.alpha)).1 gone)) in record {
+        least = level-same (AllLevel exact easing at from to) (RoundsToLevel easing at from to) v
+            (λ w. exact-all easing at (gain from to w) (due from w)) level;
+        greatest = level-same (SomeLevel exact easing at from to) (RoundsToLevel easing at from to) v
+            (λ w. exact-some easing at (gain from to w) (due from w)) level;
+      };
+}
+
+exact-loose_channel_on : (part : Value → Shade) (course : Course) (v : ℤ) → IsChannelOn part course v → IsLooseChannelOn exact part course (one_value v)
+exact-loose_channel_on part (still x) v good = ap one_value good
+exact-loose_channel_on part (moving i) v good = exact-loose_channel i.easing i.distance (part i.from) (part i.to) v good
+
 exact-hidden : (Each Any Hides : Type 0) (shown : Bool) → (Each ↔ Hides) → (Any ↔ Hides) → IsHiddenExactlyWhere Hides shown → IsHiddenSurely Each Any (sure_of shown)
 exact-hidden Each Any Hides true all some good = λ any. good.visible refl (some.0 any)
 exact-hidden Each Any Hides false all some good = all.1 (good.hidden refl)
@@ -82,15 +111,16 @@ exact-shown_on : (course : Course) (shown : Bool) → IsShownOn course shown →
 exact-shown_on (still x) shown good = still-shown exact (visible_of x) shown good
 exact-shown_on (moving i) shown good = exact-shown i.easing i.distance (visible_of i.from) (visible_of i.to) shown good
 
-exact-shown_with : (colour : Option Rgb) (course : Course) (shown : Bool) → IsShownWith colour course shown → IsSurelyShownWith exact colour course (sure_of shown)
+exact-shown_with : (colour : Option Rgba) (course : Course) (shown : Bool) → IsShownWith colour course shown → IsSurelyShownWith exact colour course (sure_of shown)
 exact-shown_with None course shown good = ap sure_of good
 exact-shown_with (Some c) course shown good = exact-shown_on course shown good
 
 pub exact-exact : ExactKindIsExact
 exact-exact scene setup frame layer state good = record {
-  is_red = exact-loose_on channel red_of (course_of scene setup frame layer Background) (pos state.red) good.is_red;
-  is_green = exact-loose_on channel green_of (course_of scene setup frame layer Background) (pos state.green) good.is_green;
-  is_blue = exact-loose_on channel blue_of (course_of scene setup frame layer Background) (pos state.blue) good.is_blue;
+  is_red = exact-loose_channel_on red_of (course_of scene setup frame layer Background) (pos state.red) good.is_red;
+  is_green = exact-loose_channel_on green_of (course_of scene setup frame layer Background) (pos state.green) good.is_green;
+  is_blue = exact-loose_channel_on blue_of (course_of scene setup frame layer Background) (pos state.blue) good.is_blue;
+  is_cover = exact-loose_on cover cover_of (course_of scene setup frame layer Background) (pos state.cover) good.is_cover;
   is_alpha = exact-loose_on alpha alpha_of (course_of scene setup frame layer Opacity) (pos state.alpha) good.is_alpha;
   is_shown = exact-shown_with layer.colour (course_of scene setup frame layer Visibility) state.shown good.is_shown;
   is_left = exact-loose_on position length_of (course_of scene setup frame layer Left) state.left good.is_left;
@@ -216,6 +246,44 @@ wide-loose_on :
 wide-loose_on slot part (still x) v loose good known = wide-loose slot Linear zero_of_one (part x) (part x) v loose good known
 wide-loose_on slot part (moving i) v loose good known = wide-loose slot i.easing i.distance (part i.from) (part i.to) v loose good known
 
+-- it is impossible that a loose channel doesn't hold the exact one, and so it does
+wide-channel :
+    (easing : Easing) (at : Fraction) (from to : Shade) (v : ℤ) (loose : Loose) → IsChannelValue easing at from to v
+    → IsLooseChannel wide easing at from to loose → (Holds loose v → ⊥) → ⊥
+wide-channel easing at from to v loose good known apart =
+    let some_left : AllGone wide easing at from to → ⊥ = λ all.
+    apart (holds-one loose v (known.gone all) (good.gone (wide-all easing at (fading from to) (pos from.alpha) all))) in
+    let all_left : SomeGone wide easing at from to → ⊥ = λ some.
+    apart (holds-any loose v (known.mixed some some_left) (channel-at_least easing at from to v good) (channel-at_most easing at from to v good)) in
+    let level = good.left (λ gone. all_left (wide-some easing at (fading from to) (pos from.alpha) gone)) in
+    let ends = known.left all_left in
+    apart (record {
+      least = level-mono (AllLevel wide easing at from to) (RoundsToLevel easing at from to) loose.lo v
+          (λ u. wide-all easing at (gain from to u) (due from u)) ends.least level;
+      greatest = level-mono (RoundsToLevel easing at from to) (SomeLevel wide easing at from to) v loose.hi
+          (λ u. wide-some easing at (gain from to u) (due from u)) level ends.greatest;
+    })
+  where
+    holds-one : (loose : Loose) (v : ℤ) → loose ≡ one_value (pos 0) → v ≡ pos 0 → Holds loose v
+    holds-one loose v e f = rw (e, f) (record { least = omega (arith, ints); greatest = omega (arith, ints) })
+
+    holds-any : (loose : Loose) (v : ℤ) → loose ≡ any_level → pos 0 ≤ℤ v → v ≤ℤ pos 255 → Holds loose v
+    holds-any loose v e low high = rw e (record { least = low; greatest = high })
+
+wide-loose_channel :
+    (easing : Easing) (at : Fraction) (from to : Shade) (v : ℤ) (loose : Loose) → IsChannelValue easing at from to v
+    → IsLooseChannel wide easing at from to loose → Holds loose v
+wide-loose_channel easing at from to v loose good known = record {
+  least = by_lt_z v loose.lo (λ above. absurd (wide-channel easing at from to v loose good known (λ h. let low = h.least in omega (arith, ints)))) (λ within. within);
+  greatest = by_lt_z loose.hi v (λ above. absurd (wide-channel easing at from to v loose good known (λ h. let high = h.greatest in omega (arith, ints)))) (λ within. within);
+}
+
+wide-loose_channel_on :
+    (part : Value → Shade) (course : Course) (v : ℤ) (loose : Loose) → IsChannelOn part course v → IsLooseChannelOn wide part course loose
+    → Holds loose v
+wide-loose_channel_on part (still x) v loose good known = rw (known, good) (record { least = omega (arith, ints); greatest = omega (arith, ints) })
+wide-loose_channel_on part (moving i) v loose good known = wide-loose_channel i.easing i.distance (part i.from) (part i.to) v loose good known
+
 -- what a sureness says of an answer
 pub record Tells (sureness : Sureness) (shown : Bool) : Type 0 where
   pub visible : sureness ≡ surely → shown ≡ true
@@ -253,7 +321,7 @@ wide-still true shown sureness e known = tells-surely sureness shown known e
 wide-still false shown sureness e known = tells-surely_not sureness shown known e
 
 wide-shown_with :
-    (colour : Option Rgb) (course : Course) (shown : Bool) (sureness : Sureness) → IsShownWith colour course shown
+    (colour : Option Rgba) (course : Course) (shown : Bool) (sureness : Sureness) → IsShownWith colour course shown
     → IsSurelyShownWith wide colour course sureness → Tells sureness shown
 wide-shown_with None course shown sureness good known = tells-surely_not sureness shown known good
 wide-shown_with (Some c) (still x) shown sureness good known = wide-still (visible_of x) shown sureness good known
@@ -262,9 +330,10 @@ wide-shown_with (Some c) (moving i) shown sureness good known = wide-shown i.eas
 pub wide-holds : WideHoldsExact
 wide-holds scene setup frame layer state loose good known =
     let tells = wide-shown_with layer.colour (course_of scene setup frame layer Visibility) state.shown loose.shown good.is_shown known.is_shown in record {
-      red = wide-loose_on channel red_of (course_of scene setup frame layer Background) (pos state.red) loose.red good.is_red known.is_red;
-      green = wide-loose_on channel green_of (course_of scene setup frame layer Background) (pos state.green) loose.green good.is_green known.is_green;
-      blue = wide-loose_on channel blue_of (course_of scene setup frame layer Background) (pos state.blue) loose.blue good.is_blue known.is_blue;
+      red = wide-loose_channel_on red_of (course_of scene setup frame layer Background) (pos state.red) loose.red good.is_red known.is_red;
+      green = wide-loose_channel_on green_of (course_of scene setup frame layer Background) (pos state.green) loose.green good.is_green known.is_green;
+      blue = wide-loose_channel_on blue_of (course_of scene setup frame layer Background) (pos state.blue) loose.blue good.is_blue known.is_blue;
+      cover = wide-loose_on cover cover_of (course_of scene setup frame layer Background) (pos state.cover) loose.cover good.is_cover known.is_cover;
       alpha = wide-loose_on alpha alpha_of (course_of scene setup frame layer Opacity) (pos state.alpha) loose.alpha good.is_alpha known.is_alpha;
       visible = tells.visible;
       hidden = tells.hidden;

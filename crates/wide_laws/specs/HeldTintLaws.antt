@@ -23,9 +23,10 @@ pub record IsInTint (tint : Tint) (c : Rgb) : Type 0 where
   pub green : IsInSpan (green_span tint) c.g
   pub blue : IsInSpan (blue_span tint) c.b
 
--- a loose state holds a state, and has no alpha above 255
+-- a loose state holds a state, and has neither cover nor alpha above 255
 pub record IsHeld (loose : LooseState) (state : State) : Type 0 where
   pub holds : HoldsState loose state
+  pub cover : loose.cover.hi ≤ℤ pos 255
   pub alpha : loose.alpha.hi ≤ℤ pos 255
 
 -- whatever loose states hold the states: the tint holds the pixel's colour

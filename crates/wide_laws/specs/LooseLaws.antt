@@ -3,7 +3,7 @@ use Rattle.std.specs.Prelude.{ℕ, ℤ, pos, Bool, true, false, ◌≡◌, ◌�
 use Rattle.page_model.specs.declared.setup.Setup.{Setup}
 use Rattle.page_model.specs.declared.scene.Layer.{Layer}
 use Rattle.page_model.specs.declared.scene.Scene.{Scene}
-use Rattle.page_model.specs.Enclosure.{Kind, exact, wide, Loose, LooseState, Sureness, surely, surely_not, IsLooseStateAt}
+use Rattle.page_model.specs.Enclosure.{Kind, exact, wide, Loose, LooseState, one_value, Sureness, surely, surely_not, IsLooseStateAt}
 use Rattle.page_model.specs.LayerAt.{State, IsStateAt}
 use Rattle.page_model.specs.TintOf.{IsLooseRunIn}
 use Rattle.state_laws.specs.RunLaws.{IsMet}
@@ -18,10 +18,6 @@ LooseStateIsUnique =
     (kind : Kind) (scene : Scene) (setup : Setup) (frame : ℕ) (layer : Layer) (state other : LooseState)
     → IsLooseStateAt kind scene setup frame layer state → IsLooseStateAt kind scene setup frame layer other → state ≡ other
 
--- one value as a loose one
-abbrev pub one_value : ℤ → Loose
-one_value v = record { lo = v; hi = v }
-
 abbrev pub sure_of : Bool → Sureness
 sure_of true = surely
 sure_of false = surely_not
@@ -32,6 +28,7 @@ known state = record {
   red = one_value (pos state.red);
   green = one_value (pos state.green);
   blue = one_value (pos state.blue);
+  cover = one_value (pos state.cover);
   alpha = one_value (pos state.alpha);
   shown = sure_of state.shown;
   left = one_value state.left;
@@ -55,6 +52,7 @@ pub record HoldsState (loose : LooseState) (state : State) : Type 0 where
   pub red : Holds loose.red (pos state.red)
   pub green : Holds loose.green (pos state.green)
   pub blue : Holds loose.blue (pos state.blue)
+  pub cover : Holds loose.cover (pos state.cover)
   pub alpha : Holds loose.alpha (pos state.alpha)
   pub visible : loose.shown ≡ surely → state.shown ≡ true
   pub hidden : loose.shown ≡ surely_not → state.shown ≡ false

@@ -1,17 +1,19 @@
 -- Each part by the way of its property.
 use Rattle.std.proofs.Common.{◌<◌, ap, ◌∙◌, subst}
 use Rattle.page_model.specs.declared.property.Prop.TheVariants.{Background, Opacity, Visibility, Left, Top, Width, Height}
-use Rattle.page_model.specs.LayerAt.{red_of, green_of, blue_of, alpha_of, length_of}
-use Rattle.page_model.specs.Slot.{channel, alpha, position, extent}
-use Rattle.frame_state.specs.States.{one_value, sure_with}
-use Rattle.frame_state.specs.Ways.{Way, value_by}
+use Rattle.page_model.specs.LayerAt.{red_of, green_of, blue_of, cover_of, alpha_of, length_of}
+use Rattle.page_model.specs.Slot.{cover, alpha, position, extent}
+use Rattle.page_model.specs.Enclosure.{one_value}
+use Rattle.frame_state.specs.States.{sure_with}
+use Rattle.frame_state.specs.Ways.{Way, channel_by, value_by}
 use Rattle.frame_state.proofs.layers.state_of.Goals as goal
 
 pub returns-clause-value : goal.returns-clause-value
 returns-clause-value c =
-    let red = c.red_on.ensures ∙ ap (λ (w : Way). one_value (value_by channel red_of w)) c.way_of-fill.ensures.value in
-    let green = c.green_on.ensures ∙ ap (λ (w : Way). one_value (value_by channel green_of w)) c.way_of-fill.ensures.value in
-    let blue = c.blue_on.ensures ∙ ap (λ (w : Way). one_value (value_by channel blue_of w)) c.way_of-fill.ensures.value in
+    let red = c.red_on.ensures ∙ ap (λ (w : Way). one_value (channel_by red_of w)) c.way_of-fill.ensures.value in
+    let green = c.green_on.ensures ∙ ap (λ (w : Way). one_value (channel_by green_of w)) c.way_of-fill.ensures.value in
+    let blue = c.blue_on.ensures ∙ ap (λ (w : Way). one_value (channel_by blue_of w)) c.way_of-fill.ensures.value in
+    let covered = c.cover_on.ensures ∙ ap (λ (w : Way). one_value (value_by cover cover_of w)) c.way_of-fill.ensures.value in
     let opaque = c.alpha_on.ensures ∙ ap (λ (w : Way). one_value (value_by alpha alpha_of w)) c.way_of-opacity.ensures.value in
     let shown = c.shown_with.ensures ∙ ap (sure_with c.args.layer.now.colour) c.way_of-visibility.ensures.value in
     let left = c.pixels.ensures ∙ ap (λ (w : Way). one_value (value_by position length_of w)) c.way_of-left.ensures.value in
@@ -22,6 +24,7 @@ returns-clause-value c =
       red = red i;
       green = green i;
       blue = blue i;
+      cover = covered i;
       alpha = opaque i;
       shown = shown i;
       left = left i;

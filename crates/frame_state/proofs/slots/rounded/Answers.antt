@@ -2,7 +2,8 @@
 use Rattle.std.proofs.Common.{ap, arith}
 use Rattle.std.specs.Int.{w32}
 use Rattle.std.proofs.lemmas.Int.{ints, to_z-of_z}
-use Rattle.frame_state.specs.States.{slot_as, one_value}
+use Rattle.page_model.specs.Enclosure.{one_value}
+use Rattle.frame_state.specs.States.{slot_as}
 use Rattle.frame_state.proofs.MixLemmas.{IsSmall, mixed-rounded, mixed-can_round}
 use Rattle.frame_state.proofs.slots.rounded.Goals as goal
 

@@ -3,7 +3,7 @@ use Rattle.std.proofs.Common.{◌∙◌, sym}
 use Rattle.paint_blend.proofs.ReadyLemmas.{ground-ready}
 use Rattle.paint_blend.proofs.painting.ground.Goals as goal
 
-pub own_colour-requires : goal.own_colour-requires
-own_colour-requires c =
+pub tint_over-requires : goal.tint_over-requires
+tint_over-requires c =
     ground-ready c.args.scene.now c.args.states.now _ c.requires.states c.requires.valid.some_layer c.requires.ready
     (sym c.has_ground.ensures ∙ c.if-has_ground.true)
