@@ -1,4 +1,5 @@
 pub mod BlendLemmas
+mod CloseLemmas
 pub mod CourseLemmas
 pub mod KindLemmas
 pub mod MarginLemmas

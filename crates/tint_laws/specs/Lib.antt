@@ -1,3 +1,4 @@
+pub mod MarginLaws
 pub mod NestLaws
 pub mod TintLaws
 pub mod WindowLaws
