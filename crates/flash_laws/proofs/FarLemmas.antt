@@ -68,7 +68,7 @@ least-below t x y n plo phi qlo qhi some a b c d =
             above_gap : (x y : ℕ) → y ≤ x + gap x y
             above_gap x y = omega arith
 
-greatest-above : (t x y n plo phi qlo qhi : ℕ) → plo * n ≤ t * x → t * x ≤ phi * n → qlo * n ≤ t * y → t * y ≤ qhi * n
+pub greatest-above : (t x y n plo phi qlo qhi : ℕ) → plo * n ≤ t * x → t * x ≤ phi * n → qlo * n ≤ t * y → t * y ≤ qhi * n
     → t * gap x y ≤ max (phi - qlo) (qhi - plo) * n
 greatest-above t x y n plo phi qlo qhi a b c d =
     elim (cases_lt y x) [

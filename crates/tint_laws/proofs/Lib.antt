@@ -1,5 +1,6 @@
 pub mod AlikeLemmas
 pub mod BlendLemmas
+mod CloseLemmas
 pub mod CourseLemmas
 pub mod KindLemmas
 pub mod MarginLemmas

@@ -1,19 +1,21 @@
 -- The margin of the wide tests of far, 2^-24 of the squared distance, is more than the floors and ceilings in parts of 2^40 can
 -- be wrong: so what is far by the wide margin is far by the least distance, and what is far by the greatest distance is nearly far.
 use Rattle.std.proofs.Common.{◌≡◌, ℕ, ◌+◌, ◌-◌, ◌*◌, ◌/◌, ◌^◌, ◌<◌, ◌≤◌, arith, inl, inr}
-use Rattle.std.proofs.lemmas.Bool.{cases_lt}
+use Rattle.std.proofs.lemmas.Bool.{cases_Bool, cases_lt}
 use Rattle.std.proofs.lemmas.Nat.{div-add-mod', mod_below}
 use Rattle.std.proofs.Math.Nat.{mul-le-mul, mul-le-mul_left, mul-le-mul_right, le_of_mul-le-mul_right, lt_of_mul-lt-mul_left}
 use Rattle.page_model.specs.Change.{Enclosed, enclosed, least_gap, greatest_gap, AreFarBy, AreFarOrNearly, AreFarAndMore}
-use Rattle.page_model.specs.Red.{Chromaticity, gap}
+use Rattle.page_model.specs.declared.colour.Rgb.{Rgb}
+use Rattle.page_model.specs.Red.{Chromaticity, chromaticity_of, gap, is_black}
+use Rattle.flash_laws.proofs.SureLemmas.{over-pos}
 use Rattle.flash_laws.proofs.FarLemmas.{encloses, over_both, least-below}
 
 -- the ends of an enclosure are less than one part away
-record IsClose (t num den : ℕ) (e : Enclosed) : Type 0 where
+pub record IsClose (t num den : ℕ) (e : Enclosed) : Type 0 where
   above : num * t ≤ e.lo * den + den
   below : e.hi * den ≤ num * t + den
 
-close : (num den : ℕ) → 0 < den → IsClose (2 ^ 40) num den (enclosed num den)
+pub close : (num den : ℕ) → 0 < den → IsClose (2 ^ 40) num den (enclosed num den)
 close num den some = record {
   above = floor-close (num * 2 ^ 40) den some;
   below = ceiling-close (num * 2 ^ 40) den some;
@@ -25,13 +27,13 @@ close num den some = record {
   ceiling-close m d some = omega (arith, div-add-mod' (m + (d - 1)) d)
 
 -- two fractions a / d and b / e, over d * e
-record AreClose (t x y n : ℕ) (p q : Enclosed) : Type 0 where
+pub record AreClose (t x y n : ℕ) (p q : Enclosed) : Type 0 where
   p_above : t * x ≤ p.lo * n + n
   p_below : p.hi * n ≤ t * x + n
   q_above : t * y ≤ q.lo * n + n
   q_below : q.hi * n ≤ t * y + n
 
-close_both : (t a d b e : ℕ) (p q : Enclosed) → IsClose t a d p → IsClose t b e q → AreClose t (a * e) (b * d) (d * e) p q
+pub close_both : (t a d b e : ℕ) (p q : Enclosed) → IsClose t a d p → IsClose t b e q → AreClose t (a * e) (b * d) (d * e) p q
 close_both t a d b e p q first second =
     let one = mul-le-mul_right e first.above in
     let two = mul-le-mul_right e first.below in
@@ -45,7 +47,7 @@ close_both t a d b e p q first second =
     }
 
 -- the least distance is less than two parts below the exact one, and the greatest one less than two above it
-least-close : (t x y n : ℕ) (p q : Enclosed) → AreClose t x y n p q → t * gap x y ≤ (least_gap p q + 2) * n
+pub least-close : (t x y n : ℕ) (p q : Enclosed) → AreClose t x y n p q → t * gap x y ≤ (least_gap p q + 2) * n
 least-close t x y n p q near =
     elim (cases_lt y x) [
       | inl right ↦ one_way t x y n p.lo q.hi (gap x y) (least_gap p q) (omega (arith, right)) (omega arith) near.p_above near.q_below
@@ -58,7 +60,7 @@ least-close t x y n p q near =
           let more = mul-le-mul_right n within in
           omega (arith, split, more, a, b)
 
-greatest-close : (t x y n : ℕ) (p q : Enclosed) → AreClose t x y n p q → greatest_gap p q * n ≤ t * gap x y + 2 * n
+pub greatest-close : (t x y n : ℕ) (p q : Enclosed) → AreClose t x y n p q → greatest_gap p q * n ≤ t * gap x y + 2 * n
 greatest-close t x y n p q near =
     elim (cases_lt (p.hi - q.lo) (q.hi - p.lo)) [
       | inl second ↦
@@ -89,7 +91,15 @@ pub record IsBounded (p : Chromaticity) : Type 0 where
   pub u : p.u ≤ 4 * p.over
   pub v : p.v ≤ p.over
 
-gap-scaled : (a d b e k : ℕ) → a ≤ k * d → b ≤ k * e → gap (a * e) (b * d) ≤ k * (d * e)
+-- the coordinates of a colour
+pub bounded : (c : Rgb) → IsBounded (chromaticity_of c)
+bounded c =
+    elim (cases_Bool (is_black c)) [
+      | inl black ↦ record { over = over-pos c; u = rw black (omega arith); v = rw black (omega arith) }
+      | inr coloured ↦ record { over = over-pos c; u = rw coloured (omega arith); v = rw coloured (omega arith) }
+    ]
+
+pub gap-scaled : (a d b e k : ℕ) → a ≤ k * d → b ≤ k * e → gap (a * e) (b * d) ≤ k * (d * e)
 gap-scaled a d b e k first second =
     let one = mul-le-mul_right e first in
     let two = mul-le-mul_right d second in

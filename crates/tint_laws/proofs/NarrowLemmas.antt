@@ -5,11 +5,11 @@ use Rattle.std.proofs.lemmas.Bool.{cases_Bool}
 use Rattle.page_model.specs.declared.colour.Rgb.{Rgb}
 use Rattle.page_model.specs.declared.colour.Tint.{Tint}
 use Rattle.page_model.specs.Change.{IsPossibleRise, IsSureRise, IsPossibleFall, IsSureFall, IsSingle, IsCorner, HasSaturated, AreSingleAndFar, AreFarBy, AreFarAndMore, AreFarOrNearly, least_gap, greatest_gap, IsPossiblyRed, IsSurelyRed}
-use Rattle.page_model.specs.Red.{Chromaticity, IsSaturated, chromaticity_of, is_black}
+use Rattle.page_model.specs.Red.{Chromaticity, IsSaturated, chromaticity_of}
 use Rattle.flash_laws.specs.SureLaws.{IsOf}
 use Rattle.tint_laws.specs.NestLaws.{LiesIn}
-use Rattle.tint_laws.proofs.MarginLemmas.{IsBounded, far_and_more-by_least, by_greatest-far_or_nearly}
-use Rattle.flash_laws.proofs.SureLemmas.{luma-least, luma-most, rise-wider, over-pos, single-is, single-or_not, saturated-corner}
+use Rattle.tint_laws.proofs.MarginLemmas.{bounded, by_greatest-far_or_nearly, far_and_more-by_least}
+use Rattle.flash_laws.proofs.SureLemmas.{luma-least, luma-most, rise-wider, single-is, single-or_not, saturated-corner}
 
 -- a change of outer tints is one of inner tints, or the other way round
 abbrev pub Narrows : (Tint → Tint → Type 0) → (Tint → Tint → Type 0) → Type 0
@@ -31,14 +31,6 @@ possible_rise-widens a b c d first second rise =
 
 pub possible_fall-widens : Widens IsPossibleFall IsPossibleFall
 possible_fall-widens a b c d first second fall = possible_rise-widens b a d c second first fall
-
--- the coordinates of a colour
-bounded : (c : Rgb) → IsBounded (chromaticity_of c)
-bounded c =
-    elim (cases_Bool (is_black c)) [
-      | inl black ↦ record { over = over-pos c; u = rw black (omega arith); v = rw black (omega arith) }
-      | inr coloured ↦ record { over = over-pos c; u = rw coloured (omega arith); v = rw coloured (omega arith) }
-    ]
 
 -- a tint in a single one is that one
 inner-single : (outer inner : Tint) → LiesIn outer inner → IsSingle outer → IsSingle inner

@@ -1,4 +1,5 @@
 pub mod AlikeLaws
+pub mod MarginLaws
 pub mod NestLaws
 pub mod TintLaws
 pub mod WindowLaws

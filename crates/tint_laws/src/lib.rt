@@ -10,10 +10,12 @@
 //! for the reader of both.
 #![tactic(auto)]
 
+mod margin;
 mod nest;
 mod tint;
 mod window;
 
+pub use margin::distances_are_close;
 pub use nest::{bad_windows_nest, flashes_nest};
 pub use tint::{alike_pixels_have_one_tint, tints_hold_colours, tints_hold_tints};
 pub use window::{bad_windows_lie_between, kinds_of_bad_windows_nest};
