@@ -1,5 +1,4 @@
 pub mod PaintingLemmas
-pub mod ReadyLemmas
 pub mod SceneLemmas
 pub mod SourceLemmas
 pub mod TableLemmas

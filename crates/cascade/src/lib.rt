@@ -22,8 +22,6 @@ mod properties;
 mod resolving;
 mod scene_fault;
 mod tables;
-#[cfg(test)]
-mod tests;
 
 pub use resolving::resolve;
 pub use scene_fault::SceneFault;

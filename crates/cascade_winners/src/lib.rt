@@ -11,8 +11,6 @@
 #![tactic(auto)]
 
 mod matching;
-#[cfg(test)]
-mod tests;
 mod weights;
 mod winners;
 

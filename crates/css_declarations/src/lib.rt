@@ -17,8 +17,6 @@ mod declaration_list;
 mod fault;
 mod inline;
 mod laws;
-#[cfg(test)]
-mod tests;
 mod tokens;
 mod values;
 

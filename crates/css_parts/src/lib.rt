@@ -15,8 +15,6 @@ mod frames;
 mod given;
 mod offsets;
 mod selectors;
-#[cfg(test)]
-mod tests;
 pub mod tokens;
 
 pub use frames::{add_frames, easing_of, settings_of};

@@ -17,8 +17,6 @@ mod laws;
 mod reading;
 mod rules;
 mod sheet;
-#[cfg(test)]
-mod tests;
 
 pub use css_declarations::{SheetFault, one_inline_reading, read_inline};
 pub use laws::one_sheet_reading;

@@ -23,8 +23,6 @@ mod shelf;
 mod sink;
 mod source;
 mod stdout_sink;
-#[cfg(test)]
-mod tests;
 mod writing;
 
 pub use fault::{SinkFault, SourceFault};

@@ -14,8 +14,6 @@ mod laws;
 mod load_fault;
 mod loading;
 mod styles;
-#[cfg(test)]
-mod tests;
 
 pub use laws::one_loading;
 pub use load_fault::LoadFault;

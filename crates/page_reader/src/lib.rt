@@ -22,8 +22,6 @@ mod stage;
 mod symbol;
 mod symbols;
 mod tag_name;
-#[cfg(test)]
-mod tests;
 
 pub use fault::PageFault;
 pub use laws::{one_page_reading, page_is_whole};

@@ -1,6 +1,8 @@
 // What no clause says: that calls succeed with ample memory, how much a read is offered, and that the
 // ends of the system are the system's.
-use crate::{FileSource, MemorySink, MemorySource, ReadAllFault, StdoutSink, read_all, write_all};
+use io_edge::{
+    FileSource, MemorySink, MemorySource, ReadAllFault, StdoutSink, read_all, write_all,
+};
 use std::test::Fail;
 
 #[test]

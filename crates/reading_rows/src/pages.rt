@@ -1,18 +1,9 @@
 // Pages that are read, and the places of those that aren't.
 ghost use Rattle.std.specs.Prelude.{◌≤◌, length};
 
-use crate::{PageFault, read_page};
 use page_model::{Place, Tag};
-use std::process::Abort;
+use page_reader::{PageFault, read_page};
 use std::test::Fail;
-
-/// That the text is refused at this place.
-fn refused<R: Abort + AllocGlobal>(rt: &R, text: &[u8], at: u32)
-    requires { length text.now ≤ 1048576 }
-{
-    let fault = read_page(rt.alloc(), text).err();
-    assert!(rt; fault == Some(PageFault::BadText { at }));
-}
 
 #[test]
 fn a_page_is_read(rt: HostRuntime) -> Result<(), Fail> {
@@ -28,65 +19,54 @@ fn a_page_is_read(rt: HostRuntime) -> Result<(), Fail> {
     Ok(())
 }
 
-#[test]
-fn fronts_of_a_page(rt: HostRuntime) {
-    refused(&rt, b"", 0);
-    refused(&rt, b"<!DOCTYPE ", 0);
-    refused(&rt, b"<!DOCTYPE html><html><head><style>", 34);
-    refused(
-        &rt,
+/// Texts that are no page, with the place where they cease to be one.
+const REFUSED: [(&[u8], u32); 15] = [
+    (b"", 0),
+    (b"<!DOCTYPE ", 0),
+    (b"<!DOCTYPE html><html><head><style>", 34),
+    (
         b"<!DOCTYPE html><html><head><style></style></head><body></body></html",
         62,
-    );
-}
-
-#[test]
-fn where_bytes_and_tokens_cease(rt: HostRuntime) {
-    refused(&rt, b"<!DOC\xffTYPE html>", 5);
-    refused(&rt, b"<!DO\x08CTYPE html>", 4);
-    refused(&rt, b"</body>", 0);
-    refused(
-        &rt,
-        b"<div title=\"x\"><div/><!-- -- --><!DOCTYPE html>",
-        21,
-    );
-}
-
-#[test]
-fn where_pages_cease(rt: HostRuntime) {
-    refused(
-        &rt,
+    ),
+    (b"<!DOC\xffTYPE html>", 5),
+    (b"<!DO\x08CTYPE html>", 4),
+    (b"</body>", 0),
+    (b"<div title=\"x\"><div/><!-- -- --><!DOCTYPE html>", 21),
+    (
         b"<!DOCTYPE html><html><head><!--->--></style></head></span></html>",
         27,
-    );
-    refused(
-        &rt,
+    ),
+    (
         b"<!DOCTYPE html><html><head></head><body lang=\"en\"></body></html>",
         34,
-    );
-    refused(
-        &rt,
+    ),
+    (
         b"<!DOCTYPE html><html><head><style>.a{left:0px}<!-- b --></style></head><body></body></html>",
         46,
-    );
-    refused(
-        &rt,
+    ),
+    (
         b"<!DOCTYPE html><html><head><title>&amp;</title></head><body></body></html>",
         34,
-    );
-    refused(
-        &rt,
+    ),
+    (
         b"<!DOCTYPE html><html><head></head><body id='a' ID='b'></body></html>",
         34,
-    );
-    refused(
-        &rt,
+    ),
+    (
         b"<!DOCTYPE html><html><head></head><body/></body></html>",
         34,
-    );
-    refused(
-        &rt,
+    ),
+    (
         b"<!DOCTYPE html><html><head></head><body><div></span></body></html>",
         45,
-    );
+    ),
+];
+
+#[test]
+fn where_texts_cease_to_be_a_page(rt: HostRuntime) {
+    for (text, at) in REFUSED.iter() {
+        assert!(rt; text.len() <= 1000);
+        let fault = read_page(rt.alloc(), text).err();
+        assert!(rt; fault == Some(PageFault::BadText { at: *at }), "{at}");
+    }
 }
