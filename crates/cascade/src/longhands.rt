@@ -3,7 +3,7 @@ ghost use Rattle.std.specs.Prelude.{◌≡◌, pos, true, option_and_then, unwra
 ghost use Rattle.std.specs.Option.{option_copied};
 ghost use Rattle.page_model.specs.Cascade as definition;
 
-use page_model::{Count, Direction, Easing, Fill, List, Longhand, Name, Rgb};
+use page_model::{Count, Direction, Easing, Fill, List, Longhand, Name, Rgba};
 
 /// A length in hundredths of a pixel, 0 where there is none.
 pub fn length(value: Option<&Longhand>) -> i32
@@ -19,7 +19,7 @@ pub fn length(value: Option<&Longhand>) -> i32
 }
 
 /// The colour, if one is declared.
-pub fn colour(value: Option<&Longhand>) -> Option<Rgb>
+pub fn colour(value: Option<&Longhand>) -> Option<Rgba>
     ensures { result ≡ option_and_then definition.colour_in (option_copied value.entry) }
 {
     match value {

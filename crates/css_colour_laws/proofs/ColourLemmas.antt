@@ -2,7 +2,7 @@
 use Rattle.std.proofs.Common.{ℕ, ◌≡◌, ◌∙◌, ◌⊎◌, ◌+◌, ◌*◌, ◌==◌, false, List, [], ◌∷◌, length, min, Option, Some, None, option_and_then, nat_lt, refl, ap, sym, subst, inl, inr, arith, codes}
 use Rattle.std.proofs.lemmas.Bool.{cases_Bool, ltb-true, lt-ltb, ne_eqb}
 use Rattle.std.specs.Char.{digit_value}
-use Rattle.page_model.specs.declared.colour.Rgb.{Rgb}
+use Rattle.page_model.specs.declared.colour.Rgba.{Rgba}
 use Rattle.style_tokens.specs.declared.token.CssKind.{CssKind}
 use Rattle.style_tokens.specs.declared.token.CssKind.TheVariants.{Comma, Function, Hash, Ident, Number, RightParen}
 use Rattle.css_colours.specs.Colours.{pair, channels, hash_colour, channel_at, channel_and_comma, rgb_of, colour_of}
@@ -39,32 +39,33 @@ unfolding pair
 pair_from high low n is = rw (lt-ltb (digit_value high) 16 is.high_digit, lt-ltb (digit_value low) 16 is.low_digit) (ap (λ t. Some t) (sym is.value))
 
 -- three channels that are there
-record Three (r g b : Option ℕ) (c : Rgb) : Type 0 where
+record Three (r g b : Option ℕ) (c : Rgba) : Type 0 where
   pub red : r ≡ Some c.r
   pub green : g ≡ Some c.g
   pub blue : b ≡ Some c.b
+  pub alpha : 255000 ≡ c.a
 
-three_to : (r g b : Option ℕ) (c : Rgb) → channels r g b ≡ Some c → Three r g b c
+three_to : (r g b : Option ℕ) (c : Rgba) → channels r g b ≡ Some c → Three r g b c
 unfolding channels
 three_to None g b c e = absurd (cc)
 three_to (Some r) None b c e = absurd (cc)
 three_to (Some r) (Some g) None c e = absurd (cc)
-three_to (Some r) (Some g) (Some b) c e = subst (λ d. Three (Some r) (Some g) (Some b) d) (some_same e) (record { red = refl; green = refl; blue = refl })
+three_to (Some r) (Some g) (Some b) c e = subst (λ d. Three (Some r) (Some g) (Some b) d) (some_same e) (record { red = refl; green = refl; blue = refl; alpha = refl })
 
-three_from : (r g b : Option ℕ) (c : Rgb) → Three r g b c → channels r g b ≡ Some c
+three_from : (r g b : Option ℕ) (c : Rgba) → Three r g b c → channels r g b ≡ Some c
 unfolding channels
-three_from r g b c is = rw (is.red, is.green, is.blue) refl
+three_from r g b c is = rw (is.red, is.green, is.blue) (λ i. Some (record { r = c.r; g = c.g; b = c.b; a = is.alpha i }))
 
 -- what the bytes of a hash are
-abbrev IsHash : List ℕ → Rgb → Type 0
+abbrev IsHash : List ℕ → Rgba → Type 0
 IsHash bytes c = IsShortHash (word Hash bytes ∷ []) c ⊎ IsLongHash (word Hash bytes ∷ []) c
 
-short_to : (m r g b : ℕ) (c : Rgb) → channels (pair r r) (pair g g) (pair b b) ≡ Some c → IsShortHash (word Hash (m ∷ r ∷ g ∷ b ∷ []) ∷ []) c
+short_to : (m r g b : ℕ) (c : Rgba) → channels (pair r r) (pair g g) (pair b b) ≡ Some c → IsShortHash (word Hash (m ∷ r ∷ g ∷ b ∷ []) ∷ []) c
 short_to m r g b c e =
     let three = three_to (pair r r) (pair g g) (pair b b) c e in
-    record { mark = m; r = r; g = g; b = b; alone = refl; red = pair_to r r c.r three.red; green = pair_to g g c.g three.green; blue = pair_to b b c.b three.blue }
+    record { mark = m; r = r; g = g; b = b; alone = refl; red = pair_to r r c.r three.red; green = pair_to g g c.g three.green; blue = pair_to b b c.b three.blue; alpha = sym three.alpha }
 
-long_to : (m r s g h b d : ℕ) (c : Rgb) → channels (pair r s) (pair g h) (pair b d) ≡ Some c → IsLongHash (word Hash (m ∷ r ∷ s ∷ g ∷ h ∷ b ∷ d ∷ []) ∷ []) c
+long_to : (m r s g h b d : ℕ) (c : Rgba) → channels (pair r s) (pair g h) (pair b d) ≡ Some c → IsLongHash (word Hash (m ∷ r ∷ s ∷ g ∷ h ∷ b ∷ d ∷ []) ∷ []) c
 long_to m r s g h b d c e =
     let three = three_to (pair r s) (pair g h) (pair b d) c e in
     record {
@@ -79,9 +80,10 @@ long_to m r s g h b d c e =
       red = pair_to r s c.r three.red;
       green = pair_to g h c.g three.green;
       blue = pair_to b d c.b three.blue;
+      alpha = sym three.alpha;
     }
 
-hash_to : (bytes : List ℕ) (c : Rgb) → hash_colour bytes ≡ Some c → IsHash bytes c
+hash_to : (bytes : List ℕ) (c : Rgba) → hash_colour bytes ≡ Some c → IsHash bytes c
 unfolding hash_colour
 hash_to [] c e = absurd (cc)
 hash_to (m ∷ []) c e = absurd (cc)
@@ -96,42 +98,42 @@ hash_to (m ∷ (r ∷ (s ∷ (g ∷ (h ∷ (b ∷ (d ∷ (x ∷ more)))))))) c e
     let seven : (length (m ∷ (r ∷ (s ∷ (g ∷ (h ∷ (b ∷ (d ∷ (x ∷ more)))))))) == 7) ≡ false = ne_eqb _ 7 (λ q. omega arith) in
     absurd (let f : None ≡ Some c = rw (four, seven) at e in cc)
 
-short_from : (m r g b : ℕ) (c : Rgb) → IsPair r r c.r → IsPair g g c.g → IsPair b b c.b → hash_colour (m ∷ (r ∷ (g ∷ (b ∷ [])))) ≡ Some c
+short_from : (m r g b : ℕ) (c : Rgba) → IsPair r r c.r → IsPair g g c.g → IsPair b b c.b → c.a ≡ 255000 → hash_colour (m ∷ (r ∷ (g ∷ (b ∷ [])))) ≡ Some c
 unfolding hash_colour
-short_from m r g b c p q s = three_from (pair r r) (pair g g) (pair b b) c (record { red = pair_from r r c.r p; green = pair_from g g c.g q; blue = pair_from b b c.b s })
+short_from m r g b c p q s full = three_from (pair r r) (pair g g) (pair b b) c (record { red = pair_from r r c.r p; green = pair_from g g c.g q; blue = pair_from b b c.b s; alpha = sym full })
 
-long_from : (m r s g h b d : ℕ) (c : Rgb) → IsPair r s c.r → IsPair g h c.g → IsPair b d c.b → hash_colour (m ∷ (r ∷ (s ∷ (g ∷ (h ∷ (b ∷ (d ∷ []))))))) ≡ Some c
+long_from : (m r s g h b d : ℕ) (c : Rgba) → IsPair r s c.r → IsPair g h c.g → IsPair b d c.b → c.a ≡ 255000 → hash_colour (m ∷ (r ∷ (s ∷ (g ∷ (h ∷ (b ∷ (d ∷ []))))))) ≡ Some c
 unfolding hash_colour
-long_from m r s g h b d c p q t = three_from (pair r s) (pair g h) (pair b d) c (record { red = pair_from r s c.r p; green = pair_from g h c.g q; blue = pair_from b d c.b t })
+long_from m r s g h b d c p q t full = three_from (pair r s) (pair g h) (pair b d) c (record { red = pair_from r s c.r p; green = pair_from g h c.g q; blue = pair_from b d c.b t; alpha = sym full })
 
-hash_of : (words : List Word) → Option Rgb
+hash_of : (words : List Word) → Option Rgba
 hash_of words = option_and_then hash_colour (lone when_hash words)
 
-named_of : (words : List Word) → Option Rgb
+named_of : (words : List Word) → Option Rgba
 named_of words = option_and_then (lookup colour_names) (lone when_ident words)
 
-spells_hash_to : (words : List Word) (c : Rgb) → hash_of words ≡ Some c → IsShortHash words c ⊎ IsLongHash words c
+spells_hash_to : (words : List Word) (c : Rgba) → hash_of words ≡ Some c → IsShortHash words c ⊎ IsLongHash words c
 unfolding hash_of
 spells_hash_to words c e =
     let both = then_to hash_colour (lone when_hash words) c e in
     subst (λ w. IsShortHash w c ⊎ IsLongHash w c) (sym (lone_hash_is words both.x both.first)) (hash_to both.x c both.second)
 
-short_read : (words : List Word) (c : Rgb) → IsShortHash words c → hash_of words ≡ Some c
+short_read : (words : List Word) (c : Rgba) → IsShortHash words c → hash_of words ≡ Some c
 unfolding hash_of
-short_read words c is = rw (is.alone, hash_alone (is.mark ∷ (is.r ∷ (is.g ∷ (is.b ∷ []))))) (short_from is.mark is.r is.g is.b c is.red is.green is.blue)
+short_read words c is = rw (is.alone, hash_alone (is.mark ∷ (is.r ∷ (is.g ∷ (is.b ∷ []))))) (short_from is.mark is.r is.g is.b c is.red is.green is.blue is.alpha)
 
-long_read : (words : List Word) (c : Rgb) → IsLongHash words c → hash_of words ≡ Some c
+long_read : (words : List Word) (c : Rgba) → IsLongHash words c → hash_of words ≡ Some c
 unfolding hash_of
 long_read words c is = rw (is.alone, hash_alone (is.mark ∷ (is.r1 ∷ (is.r2 ∷ (is.g1 ∷ (is.g2 ∷ (is.b1 ∷ (is.b2 ∷ []))))))))
-    (long_from is.mark is.r1 is.r2 is.g1 is.g2 is.b1 is.b2 c is.red is.green is.blue)
+    (long_from is.mark is.r1 is.r2 is.g1 is.g2 is.b1 is.b2 c is.red is.green is.blue is.alpha)
 
-spells_named_to : (words : List Word) (c : Rgb) → named_of words ≡ Some c → SpellsKeyword colour_names words c
+spells_named_to : (words : List Word) (c : Rgba) → named_of words ≡ Some c → SpellsKeyword colour_names words c
 unfolding named_of
 spells_named_to words c e =
     let both = then_to (lookup colour_names) (lone when_ident words) c e in
     record { bytes = both.x; alone = lone_ident_is words both.x both.first; entry = entry_to colour_names both.x c both.second }
 
-named_read : (words : List Word) (c : Rgb) → SpellsKeyword colour_names words c → named_of words ≡ Some c
+named_read : (words : List Word) (c : Rgba) → SpellsKeyword colour_names words c → named_of words ≡ Some c
 unfolding named_of
 named_read words c is = rw (is.alone, ident_alone is.bytes) (entry_from colour_names is.bytes c colours_differ is.entry)
 
@@ -161,7 +163,7 @@ comma_stands_behind : (bytes comma : List ℕ) (n : ℕ) (rest : List Word) → 
 unfolding channel_and_comma
 comma_stands_behind bytes comma n rest is = rw (channel_stands bytes n (word Comma comma ∷ rest) is, comma_stands comma rest) refl
 
-rgb_to : (words : List Word) (c : Rgb) → rgb_of words ≡ Some c → IsRgb words c
+rgb_to : (words : List Word) (c : Rgba) → rgb_of words ≡ Some c → IsRgb words c
 unfolding rgb_of
 rgb_to words c e =
     let a = then_to _ (function_at (codes "rgb(") words) c e in
@@ -199,7 +201,7 @@ rgb_to words c e =
           ∙ sym (ap (λ k. colour (min red.0 255) (min green.0 255) k) blue.2);
     }
 
-rgb_read : (words : List Word) (c : Rgb) → IsRgb words c → rgb_of words ≡ Some c
+rgb_read : (words : List Word) (c : Rgba) → IsRgb words c → rgb_of words ≡ Some c
 unfolding rgb_of
 rgb_read words c is =
     let tail = word Number is.b ∷ (word RightParen is.end ∷ []) in
@@ -229,18 +231,18 @@ no_named words rest k bytes e other = none (lone when_ident words) (λ b f. othe
   none None not_some = refl
   none (Some b) not_some = absurd (not_some b refl)
 
-all_of : (words : List Word) → Option Rgb
+all_of : (words : List Word) → Option Rgba
 all_of words = or_else (hash_of words) (or_else (named_of words) (rgb_of words))
 
-spelled_to : (words : List Word) (c : Rgb) → all_of words ≡ Some c → SpellsColour words c
+spelled_to : (words : List Word) (c : Rgba) → all_of words ≡ Some c → SpellsColour words c
 unfolding all_of
 spelled_to words c e = by (hash_of words) (named_of words) (λ f. f) (λ f. f) e where
-  by : (h n : Option Rgb) → (h ≡ Some c → hash_of words ≡ Some c) → (n ≡ Some c → named_of words ≡ Some c) → or_else h (or_else n (rgb_of words)) ≡ Some c → SpellsColour words c
+  by : (h n : Option Rgba) → (h ≡ Some c → hash_of words ≡ Some c) → (n ≡ Some c → named_of words ≡ Some c) → or_else h (or_else n (rgb_of words)) ≡ Some c → SpellsColour words c
   by (Some x) n is_hash is_named f = elim (spells_hash_to words c (is_hash f)) [ inl s ↦ inl s | inr s ↦ inr (inl s) ]
   by None (Some x) is_hash is_named f = inr (inr (inl (spells_named_to words c (is_named f))))
   by None None is_hash is_named f = inr (inr (inr (rgb_to words c f)))
 
-spelled_from : (words : List Word) (c : Rgb) → SpellsColour words c → all_of words ≡ Some c
+spelled_from : (words : List Word) (c : Rgba) → SpellsColour words c → all_of words ≡ Some c
 unfolding all_of
 spelled_from words c s = elim s [
   | inl short ↦ rw (short_read words c short) refl

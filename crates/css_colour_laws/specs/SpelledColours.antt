@@ -1,7 +1,7 @@
 -- Colours: CSS Color Module Level 3, as a profile.
 use Rattle.std.specs.Prelude.{ℕ, true, ◌≡◌, ◌⊎◌, ◌<◌, ◌+◌, ◌*◌, List, [], ◌∷◌, codes, min}
 use Rattle.std.specs.Char.{digit_value}
-use Rattle.page_model.specs.declared.colour.Rgb.{Rgb}
+use Rattle.page_model.specs.declared.colour.Rgba.{Rgba}
 use Rattle.style_tokens.specs.declared.token.CssKind.TheVariants.{Comma, Function, Hash, Number, RightParen}
 use Rattle.css_words.specs.Keywords.{is_keyword}
 use Rattle.css_colours.specs.ColourNames.{colour, colour_names}
@@ -16,7 +16,7 @@ pub record IsPair (high low n : ℕ) : Type 0 where
   pub value : n ≡ 16 * digit_value high + digit_value low
 
 -- a mark and three digits, each of which counts twice
-pub record IsShortHash (words : List Word) (c : Rgb) : Type 0 where
+pub record IsShortHash (words : List Word) (c : Rgba) : Type 0 where
   pub mark : ℕ
   pub r : ℕ
   pub g : ℕ
@@ -25,9 +25,10 @@ pub record IsShortHash (words : List Word) (c : Rgb) : Type 0 where
   pub red : IsPair r r c.r
   pub green : IsPair g g c.g
   pub blue : IsPair b b c.b
+  pub alpha : c.a ≡ 255000
 
 -- a mark and six digits
-pub record IsLongHash (words : List Word) (c : Rgb) : Type 0 where
+pub record IsLongHash (words : List Word) (c : Rgba) : Type 0 where
   pub mark : ℕ
   pub r1 : ℕ
   pub r2 : ℕ
@@ -39,9 +40,10 @@ pub record IsLongHash (words : List Word) (c : Rgb) : Type 0 where
   pub red : IsPair r1 r2 c.r
   pub green : IsPair g1 g2 c.g
   pub blue : IsPair b1 b2 c.b
+  pub alpha : c.a ≡ 255000
 
 -- `rgb(`, three whole numbers with commas between, each held to 255, and `)`
-pub record IsRgb (words : List Word) (c : Rgb) : Type 0 where
+pub record IsRgb (words : List Word) (c : Rgba) : Type 0 where
   pub name : List ℕ
   pub r : List ℕ
   pub g : List ℕ
@@ -59,5 +61,5 @@ pub record IsRgb (words : List Word) (c : Rgb) : Type 0 where
   pub is_blue : IsWhole b blue
   pub value : c ≡ colour (min red 255) (min green 255) (min blue 255)
 
-abbrev pub SpellsColour : List Word → Rgb → Type 0
+abbrev pub SpellsColour : List Word → Rgba → Type 0
 SpellsColour words c = IsShortHash words c ⊎ (IsLongHash words c ⊎ (SpellsKeyword colour_names words c ⊎ IsRgb words c))

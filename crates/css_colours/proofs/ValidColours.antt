@@ -2,7 +2,7 @@
 use Rattle.std.proofs.Common.{ℕ, ◌≡◌, ◌≤◌, ◌+◌, ◌*◌, ◌==◌, Bool, true, false, List, [], ◌∷◌, Option, Some, None, Ok, cond, length, min, codes, refl, ap, subst, arith, nat_lt, option_and_then}
 use Rattle.std.specs.Char.{digit_value}
 use Rattle.std.proofs.lemmas.Bool.Decides.{nat_tests}
-use Rattle.page_model.specs.declared.colour.Rgb.{Rgb}
+use Rattle.page_model.specs.declared.colour.Rgba.{Rgba}
 use Rattle.page_model.specs.ValidScene.{IsColour}
 use Rattle.css_words.specs.Keywords.{lookup}
 use Rattle.css_colours.specs.ColourNames.{colour, colour_names}
@@ -33,16 +33,16 @@ pair_is high low n e =
     (λ x bad. absurd (cc)) n e
 
 channels_are : (r g b : Option ℕ) → ((n : ℕ) → r ≡ Some n → n ≤ 255) → ((n : ℕ) → g ≡ Some n → n ≤ 255) → ((n : ℕ) → b ≡ Some n → n ≤ 255)
-    → (c : Rgb) → channels r g b ≡ Some c → IsColour c
+    → (c : Rgba) → channels r g b ≡ Some c → IsColour c
 unfolding channels
 channels_are None g b h i j c e = absurd (cc)
 channels_are (Some r) None b h i j c e = absurd (cc)
 channels_are (Some r) (Some g) None h i j c e = absurd (cc)
 channels_are (Some r) (Some g) (Some b) h i j c e =
     let same : colour r g b ≡ c = cc in
-    subst IsColour same (record { red = h r refl; green = i g refl; blue = j b refl })
+    subst IsColour same (record { red = h r refl; green = i g refl; blue = j b refl; alpha = omega arith })
 
-hash_is : (bytes : List ℕ) (c : Rgb) → hash_colour bytes ≡ Some c → IsColour c
+hash_is : (bytes : List ℕ) (c : Rgba) → hash_colour bytes ≡ Some c → IsColour c
 unfolding hash_colour
 hash_is bytes c e =
     either_is IsColour (length bytes == 4) _ _ (λ x is f. channels_are _ _ _ (pair_is _ _) (pair_is _ _) (pair_is _ _) x f)
@@ -50,7 +50,7 @@ hash_is bytes c e =
     c e
 
 a_colour : (r g b : ℕ) → r ≤ 255 → g ≤ 255 → b ≤ 255 → IsColour (colour r g b)
-a_colour r g b h i j = record { red = h; green = i; blue = j }
+a_colour r g b h i j = record { red = h; green = i; blue = j; alpha = omega arith }
 
 named_are : Entries IsColour colour_names
 unfolding colour_names
@@ -80,7 +80,7 @@ ended_is : {A : Type 0} (P : A → Type 0) (value : A) (words : List Word) → P
 ended_is P value [] good x e = let same : value ≡ x = cc in subst P same good
 ended_is P value (w ∷ words) good x e = absurd (cc)
 
-rgb_is : (words : List Word) (c : Rgb) → rgb_of words ≡ Some c → IsColour c
+rgb_is : (words : List Word) (c : Rgba) → rgb_of words ≡ Some c → IsColour c
 unfolding rgb_of
 rgb_is words c e =
     and_then_is IsColour _ (function_at (codes "rgb(") words) (λ inside is_inside x f.
@@ -92,14 +92,14 @@ rgb_is words c e =
     (a_colour r.0 green.0 b.0 (channel_and_comma_is inside r is_r) (channel_and_comma_is r.1 green is_g) (channel_is green.1 b is_b)) v j)
     u i) z h) y g) x f) c e
 
-or_is : (p q : Option Rgb) → ((c : Rgb) → p ≡ Some c → IsColour c) → ((c : Rgb) → q ≡ Some c → IsColour c) → (c : Rgb) → or_else p q ≡ Some c → IsColour c
+or_is : (p q : Option Rgba) → ((c : Rgba) → p ≡ Some c → IsColour c) → ((c : Rgba) → q ≡ Some c → IsColour c) → (c : Rgba) → or_else p q ≡ Some c → IsColour c
 or_is (Some x) q first second c e = first c e
 or_is None q first second c e = second c e
 
-pub colour_is : (words : List Word) (c : Rgb) → colour_of words ≡ Ok c → IsColour c
+pub colour_is : (words : List Word) (c : Rgba) → colour_of words ≡ Ok c → IsColour c
 unfolding colour_of
 colour_is words c e =
-    bad_ok IsColour _ (λ (found : Rgb). Ok found) (λ a is x same.
+    bad_ok IsColour _ (λ (found : Rgba). Ok found) (λ a is x same.
     let found =
     or_is (option_and_then hash_colour (lone when_hash words)) _
     (λ y f. and_then_is IsColour hash_colour (lone when_hash words) (λ bytes there z g. hash_is bytes z g) y f)

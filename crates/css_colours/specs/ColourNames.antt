@@ -1,12 +1,13 @@
 -- The names of colours.
 use Rattle.std.specs.Prelude.{ℕ, List, [], ◌∷◌, codes}
-use Rattle.page_model.specs.declared.colour.Rgb.{Rgb}
+use Rattle.page_model.specs.declared.colour.Rgba.{Rgba}
 
-abbrev pub colour : ℕ → ℕ → ℕ → Rgb
-colour red green blue = record { r = red; g = green; b = blue }
+-- an opaque colour
+abbrev pub colour : ℕ → ℕ → ℕ → Rgba
+colour red green blue = record { r = red; g = green; b = blue; a = 255000 }
 
 -- the sixteen names of colours that HTML 4 has, and orange
-unfoldable pub colour_names : List (List ℕ × Rgb)
+unfoldable pub colour_names : List (List ℕ × Rgba)
 colour_names =
     (codes "aqua", colour 0 255 255) ∷ (codes "black", colour 0 0 0) ∷ (codes "blue", colour 0 0 255) ∷ (codes "fuchsia", colour 255 0 255)
     ∷ (codes "gray", colour 128 128 128) ∷ (codes "green", colour 0 128 0) ∷ (codes "lime", colour 0 255 0) ∷ (codes "maroon", colour 128 0 0)

@@ -1,7 +1,7 @@
 -- Colours.
 use Rattle.std.specs.Prelude.{ℕ, ◌==◌, ◌+◌, ◌*◌, List, [], ◌∷◌, length, slice_index, Option, Some, None, Result, Ok, nat_lt, min, codes, option_and_then, if◌then◌else◌}
 use Rattle.std.specs.Char.{digit_value}
-use Rattle.page_model.specs.declared.colour.Rgb.{Rgb}
+use Rattle.page_model.specs.declared.colour.Rgba.{Rgba}
 use Rattle.css_words.specs.declared.fault.ValueFault.{ValueFault}
 use Rattle.css_words.specs.Keywords.{lookup}
 use Rattle.css_colours.specs.ColourNames.{colour, colour_names}
@@ -13,14 +13,14 @@ unfoldable pub pair : ℕ → ℕ → Option ℕ
 pair high low =
     if nat_lt (digit_value high) 16 then (if nat_lt (digit_value low) 16 then Some (16 * digit_value high + digit_value low) else None) else None
 
-unfoldable pub channels : Option ℕ → Option ℕ → Option ℕ → Option Rgb
+unfoldable pub channels : Option ℕ → Option ℕ → Option ℕ → Option Rgba
 channels None green blue = None
 channels (Some r) None blue = None
 channels (Some r) (Some g) None = None
 channels (Some r) (Some g) (Some b) = Some (colour r g b)
 
 -- `#` and three hexadecimal digits, each of which counts twice, or six
-unfoldable pub hash_colour : List ℕ → Option Rgb
+unfoldable pub hash_colour : List ℕ → Option Rgba
 hash_colour bytes =
     let digit = slice_index bytes in
     if length bytes == 4 then channels (pair (digit 1) (digit 1)) (pair (digit 2) (digit 2)) (pair (digit 3) (digit 3)) else
@@ -35,7 +35,7 @@ unfoldable pub channel_and_comma : List Word → Option (ℕ × List Word)
 channel_and_comma words = option_and_then (λ f. option_and_then (λ rest. Some (f.0, rest)) (behind is_comma f.1)) (channel_at words)
 
 -- `rgb(`, three whole numbers with commas between, `)`
-unfoldable pub rgb_of : List Word → Option Rgb
+unfoldable pub rgb_of : List Word → Option Rgba
 rgb_of words =
     option_and_then (λ inside.
     option_and_then (λ r.
@@ -44,7 +44,7 @@ rgb_of words =
     option_and_then (λ rest. ended (colour r.0 g.0 b.0) rest)
     (behind is_close b.1)) (channel_at g.1)) (channel_and_comma r.1)) (channel_and_comma inside)) (function_at (codes "rgb(") words)
 
-unfoldable pub colour_of : List Word → Result Rgb ValueFault
+unfoldable pub colour_of : List Word → Result Rgba ValueFault
 colour_of words =
     or_bad
     (or_else (option_and_then hash_colour (lone when_hash words))

@@ -2,6 +2,7 @@
 ghost use Rattle.std.specs.Prelude.{◌≡◌, IfOk, option_map};
 ghost use Rattle.css_colours.specs.Colours.{channel_and_comma, channel_at, channels, colour_of, hash_colour, pair};
 ghost use Rattle.css_colours.specs.Colours.{rgb_of};
+ghost use Rattle.css_colours.specs.ColourNames.{colour as opaque_colour};
 ghost use Rattle.css_words.specs.Words.{words};
 ghost use Rattle.page_model.specs.ValidScene.{IsColour};
 
@@ -10,7 +11,7 @@ use css_words::{
     ValueFault, behind_close, behind_comma, digit_value, ended, function_at, lone_hash, lone_ident,
     whole_at,
 };
-use page_model::Rgb;
+use page_model::Rgba;
 use style_tokens::CssToken;
 
 /// The value of two hexadecimal digits.
@@ -27,20 +28,32 @@ fn pair(high: u8, low: u8) -> Option<u8>
     }
 }
 
+/// An opaque colour.
+fn opaque(r: u8, g: u8, b: u8) -> Rgba
+    ensures { result ≡ opaque_colour r g b }
+{
+    Rgba {
+        r,
+        g,
+        b,
+        a: 255_000,
+    }
+}
+
 /// A colour of three channels that are there.
 #[tactic(auto, unfolding(crate::specs::Colours::channels))]
-fn channels(r: Option<u8>, g: Option<u8>, b: Option<u8>) -> Option<Rgb>
+fn channels(r: Option<u8>, g: Option<u8>, b: Option<u8>) -> Option<Rgba>
     ensures { result ≡ channels r g b }
 {
     let r = r?;
     let g = g?;
     let b = b?;
-    Some(Rgb { r, g, b })
+    Some(opaque(r, g, b))
 }
 
 /// A colour of three or six hexadecimal digits behind a `#`.
 #[tactic(auto, unfolding(crate::specs::Colours::hash_colour))]
-fn hash_colour(bytes: &[u8]) -> Option<Rgb>
+fn hash_colour(bytes: &[u8]) -> Option<Rgba>
     ensures { result ≡ hash_colour bytes.now }
 {
     if bytes.len() == 4 {
@@ -81,7 +94,7 @@ fn channel_and_comma<'a>(text: &'a [u8], tokens: &'a [CssToken]) -> Option<(u8, 
 
 /// `rgb(`, three whole numbers with commas between, `)`.
 #[tactic(auto, unfolding(crate::specs::Colours::rgb_of))]
-fn rgb_of(text: &[u8], tokens: &[CssToken]) -> Option<Rgb>
+fn rgb_of(text: &[u8], tokens: &[CssToken]) -> Option<Rgba>
     ensures { result ≡ rgb_of (words text.now tokens.now) }
 {
     let inside = function_at(b"rgb(", text, tokens)?;
@@ -89,12 +102,12 @@ fn rgb_of(text: &[u8], tokens: &[CssToken]) -> Option<Rgb>
     let (g, behind_green) = channel_and_comma(text, behind_red)?;
     let (b, behind_blue) = channel_at(text, behind_green)?;
     let rest = behind_close(text, behind_blue)?;
-    ended(Rgb { r, g, b }, text, rest)
+    ended(opaque(r, g, b), text, rest)
 }
 
 /// A colour: `#` and three or six hexadecimal digits, a name of the table, or `rgb(`, three whole numbers and `)`.
 #[tactic(auto, unfolding(crate::specs::Colours::colour_of))]
-pub fn colour(text: &[u8], tokens: &[CssToken]) -> Result<Rgb, ValueFault>
+pub fn colour(text: &[u8], tokens: &[CssToken]) -> Result<Rgba, ValueFault>
     ensures exact { result ≡ colour_of (words text.now tokens.now) }
     ensures valid { IfOk result IsColour }
 {

@@ -4,121 +4,166 @@ ghost use Rattle.css_colours.specs.ColourNames.{colour_names};
 ghost use Rattle.css_words.specs.Keywords.{lookup};
 
 use css_words::{Keyword, find};
-use page_model::Rgb;
+use page_model::Rgba;
 
-static COLOURS: [Keyword<Rgb>; 17] = [
+static COLOURS: [Keyword<Rgba>; 17] = [
     Keyword {
         word: b"aqua",
-        value: Rgb {
+        value: Rgba {
             r: 0,
             g: 255,
             b: 255,
+            a: 255_000,
         },
     },
     Keyword {
         word: b"black",
-        value: Rgb { r: 0, g: 0, b: 0 },
+        value: Rgba {
+            r: 0,
+            g: 0,
+            b: 0,
+            a: 255_000,
+        },
     },
     Keyword {
         word: b"blue",
-        value: Rgb { r: 0, g: 0, b: 255 },
+        value: Rgba {
+            r: 0,
+            g: 0,
+            b: 255,
+            a: 255_000,
+        },
     },
     Keyword {
         word: b"fuchsia",
-        value: Rgb {
+        value: Rgba {
             r: 255,
             g: 0,
             b: 255,
+            a: 255_000,
         },
     },
     Keyword {
         word: b"gray",
-        value: Rgb {
+        value: Rgba {
             r: 128,
             g: 128,
             b: 128,
+            a: 255_000,
         },
     },
     Keyword {
         word: b"green",
-        value: Rgb { r: 0, g: 128, b: 0 },
+        value: Rgba {
+            r: 0,
+            g: 128,
+            b: 0,
+            a: 255_000,
+        },
     },
     Keyword {
         word: b"lime",
-        value: Rgb { r: 0, g: 255, b: 0 },
+        value: Rgba {
+            r: 0,
+            g: 255,
+            b: 0,
+            a: 255_000,
+        },
     },
     Keyword {
         word: b"maroon",
-        value: Rgb { r: 128, g: 0, b: 0 },
+        value: Rgba {
+            r: 128,
+            g: 0,
+            b: 0,
+            a: 255_000,
+        },
     },
     Keyword {
         word: b"navy",
-        value: Rgb { r: 0, g: 0, b: 128 },
+        value: Rgba {
+            r: 0,
+            g: 0,
+            b: 128,
+            a: 255_000,
+        },
     },
     Keyword {
         word: b"olive",
-        value: Rgb {
+        value: Rgba {
             r: 128,
             g: 128,
             b: 0,
+            a: 255_000,
         },
     },
     Keyword {
         word: b"orange",
-        value: Rgb {
+        value: Rgba {
             r: 255,
             g: 165,
             b: 0,
+            a: 255_000,
         },
     },
     Keyword {
         word: b"purple",
-        value: Rgb {
+        value: Rgba {
             r: 128,
             g: 0,
             b: 128,
+            a: 255_000,
         },
     },
     Keyword {
         word: b"red",
-        value: Rgb { r: 255, g: 0, b: 0 },
+        value: Rgba {
+            r: 255,
+            g: 0,
+            b: 0,
+            a: 255_000,
+        },
     },
     Keyword {
         word: b"silver",
-        value: Rgb {
+        value: Rgba {
             r: 192,
             g: 192,
             b: 192,
+            a: 255_000,
         },
     },
     Keyword {
         word: b"teal",
-        value: Rgb {
+        value: Rgba {
             r: 0,
             g: 128,
             b: 128,
+            a: 255_000,
         },
     },
     Keyword {
         word: b"white",
-        value: Rgb {
+        value: Rgba {
             r: 255,
             g: 255,
             b: 255,
+            a: 255_000,
         },
     },
     Keyword {
         word: b"yellow",
-        value: Rgb {
+        value: Rgba {
             r: 255,
             g: 255,
             b: 0,
+            a: 255_000,
         },
     },
 ];
 
 /// The colour of this name.
-pub fn colour_named(bytes: &[u8]) -> Option<Rgb>
+pub fn colour_named(bytes: &[u8]) -> Option<Rgba>
     ensures { result ≡ lookup colour_names bytes.now }
 {
     find(&COLOURS, bytes)

@@ -7,17 +7,23 @@ ghost use Rattle.page_judge.specs.ExamplePage.{lamp};
 use super::*;
 use page_model::{
     Anim, Count, Direction, Easing, Fill, Held, Jump, Keyframe, KeyframeSet, Kind, Layer, List,
-    Prop, Rgb, Scene, Setting, Setup, Value,
+    Prop, Rgba, Scene, Setting, Setup, Value,
 };
 use std::alloc::Global;
 use std::test::Fail;
 
-const BLACK: Rgb = Rgb { r: 0, g: 0, b: 0 };
+const BLACK: Rgba = Rgba {
+    r: 0,
+    g: 0,
+    b: 0,
+    a: 255_000,
+};
 
-const WHITE: Rgb = Rgb {
+const WHITE: Rgba = Rgba {
     r: 255,
     g: 255,
     b: 255,
+    a: 255_000,
 };
 
 const NOT_HELD: Held = Held {
@@ -84,7 +90,7 @@ fn lamp_body(alloc: Global, duration: u32) -> Result<Layer, Fail>
     })
 }
 
-fn keyframe(alloc: Global, offset: u16, colour: Rgb) -> Result<Keyframe, Fail>
+fn keyframe(alloc: Global, offset: u16, colour: Rgba) -> Result<Keyframe, Fail>
     ensures { IfOk result (λ frame. frame ≡ keyed offset colour) }
 {
     let background = Setting {

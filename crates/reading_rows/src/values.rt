@@ -3,7 +3,7 @@ use css_values::types::Property;
 use css_values::{
     ValueFault, colour, declaration, easing, length, opacity, percentage, property, time, z_index,
 };
-use page_model::{Easing, Jump, List, Longhand, Place, Rgb};
+use page_model::{Easing, Jump, List, Longhand, Place, Rgba};
 use std::alloc::Global;
 use std::test::Fail;
 use text_scan::{CssToken, scan_css};
@@ -59,7 +59,15 @@ fn colours_and_easings(rt: HostRuntime) -> Result<(), Fail> {
     let text = b"rgb(0, 300, 7)";
     let channels = tokens(rt.alloc(), text)?;
     let rgb = colour(text, channels.as_slice());
-    assert_eq!(rt; rgb, Ok(Rgb { r: 0, g: 255, b: 7 }));
+    assert_eq!(rt;
+        rgb,
+        Ok(Rgba {
+            r: 0,
+            g: 255,
+            b: 7,
+            a: 255_000
+        })
+    );
     let text = b"steps(2, jump-none)";
     let steps = tokens(rt.alloc(), text)?;
     let two = Easing::Steps {

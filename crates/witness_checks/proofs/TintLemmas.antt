@@ -13,7 +13,7 @@ use Rattle.page_model.specs.declared.witness.Witness.{Witness}
 use Rattle.page_model.specs.Colour.{body_colour}
 use Rattle.page_model.specs.Enclosure.{LooseRun, LooseState, own}
 use Rattle.page_model.specs.Red.{white}
-use Rattle.page_model.specs.TintOf.{IsLooseRunIn, single, span_of, tint_box, tint_by, tint_ground, tint_of}
+use Rattle.page_model.specs.TintOf.{IsLooseRunIn, full_alpha, single, tint_box, tint_ground, tint_of, tint_over}
 use Rattle.page_model.specs.ValidScene.{IsValid}
 use Rattle.page_model.specs.Time.{window_of}
 use Rattle.page_model.specs.WitnessConditions.{HasTints, LiesInside}
