@@ -1,6 +1,6 @@
 -- The flag of one pixel of a cell is that of each of its pixels.
-use Rattle.std.proofs.Common.{◌≡◌, ◌∙◌, ℕ, ◌+◌, ◌-◌, ◌*◌, ◌/◌, ◌%◌, ◌<◌, ◌≤◌, List, length, slice_get, Some, ap, arith, inl, inr, refl, subst}
-use Rattle.std.specs.Prelude.{◌↔◌, ◌⊎◌, false}
+use Rattle.std.proofs.Common.{◌≡◌, ◌∙◌, ℕ, ◌+◌, ◌*◌, ◌/◌, ◌%◌, ◌<◌, ◌≤◌, List, length, Some, ap, arith, inl, inr, subst}
+use Rattle.std.specs.Prelude.{◌↔◌, ◌⊎◌}
 use Rattle.std.proofs.Math.Nat.{mul-div-le, mul-le-mul_left}
 use Rattle.std.proofs.lemmas.Bool.{cases_lt}
 use Rattle.std.proofs.lemmas.Option.{slice_get_cases}
@@ -8,7 +8,7 @@ use Rattle.page_model.specs.declared.colour.Tint.{Tint}
 use Rattle.page_model.specs.declared.scene.Scene.{Scene}
 use Rattle.page_model.specs.declared.setup.Setup.{Setup}
 use Rattle.page_model.specs.Cells.{cells_between}
-use Rattle.page_model.specs.Change.{IsPossibleFall, IsPossibleRise, IsSingle, IsSureFall, IsSureRise}
+use Rattle.page_model.specs.Change.{IsPossibleFall, IsPossibleRise, IsPossiblyIntoRed, IsPossiblyOutOfRed, IsSureFall, IsSureRise, IsSurelyIntoRed, IsSurelyOutOfRed}
 use Rattle.page_model.specs.Enclosure.{LooseRun, LooseState, own}
 use Rattle.page_model.specs.Horizon.{frames_for}
 use Rattle.page_model.specs.Time.{window_of}
@@ -16,14 +16,12 @@ use Rattle.page_model.specs.TintOf.{IsLooseRunIn, covers_surely, tint_of, tints_
 use Rattle.page_model.specs.ValidScene.{IsValid}
 use Rattle.flash_count.specs.declared.tracking.Flag.{Flag}
 use Rattle.flash_count.proofs.SeenLemmas.{IsSeen, has_chain-seen}
-use Rattle.frame_state.specs.Scenes.{is_coloured}
 use Rattle.frame_state.specs.States.{AreOwn}
 use Rattle.region_split.specs.Cutting.{Edges, IsCut, IsInside, bands, cell_of}
 use Rattle.region_split.specs.Sound.{AreSound}
 use Rattle.wide_laws.proofs.LooseLemmas.{loose_state-unique}
 use Rattle.cell_tints.specs.Tints.{AreTintsOfCells, IsOwnTint}
 use Rattle.cell_flags.specs.Flags.{AreFlags, AreFlagsBefore, IsFlagAt, IsFlagOf}
-use Rattle.grey_laws.proofs.RedLemmas.{never-possibly_red, never-surely_red}
 use Rattle.cell_flags.proofs.RunLemmas.{covers-alike}
 use Rattle.tint_laws.proofs.AlikeLemmas.{tint-alike}
 
@@ -95,66 +93,59 @@ seen-tint scene setup frames edges i start k column row run tint valid cut known
     (λ number layer there. is (start + k) number layer (omega arith) (omega arith) there)
     (corner-inside edges.xs edges.ys i cut.sound.columns cut.sound.rows known) inside
 
--- so the tints that were seen are the pixel's, each of them one colour
-pub record AreSeen (scene : Scene) (setup : Setup) (start column row : ℕ) (run : LooseRun) (tints : List Tint) : Type 0 where
-  pub seen : IsSeen (λ frame. tints_of scene run frame column row) start (window_of setup) tints
-  pub one_colour : (frame : ℕ) → start ≤ frame → frame ≤ start + window_of setup → IsSingle (tints_of scene run frame column row)
-
+-- so the tints that were seen are the pixel's
 seen-tints : (scene : Scene) (setup : Setup) (windows : ℕ) (edges : Edges) (tints : List Tint) (i start column row : ℕ) (run : LooseRun) (flag : Flag)
     → IsValid scene → IsCut scene setup (frames_for setup windows) edges
     → AreTintsOfCells scene setup edges 0 (frames_for setup windows) tints → i < cells_between edges.xs edges.ys → start < windows
     → IsLooseRunIn own scene setup start run → IsInside (cell_of edges.xs edges.ys i) column row
-    → (at : IsFlagAt tints (cells_between edges.xs edges.ys) i (window_of setup) start flag) → AreSeen scene setup start column row run at.seen
+    → (at : IsFlagAt tints (cells_between edges.xs edges.ys) i (window_of setup) start flag)
+    → IsSeen (λ frame. tints_of scene run frame column row) start (window_of setup) at.seen
 seen-tints scene setup windows edges tints i start column row run flag valid cut own_tints known before is inside at = record {
-  seen = record { whole = at.whole; each = λ k within. (each k within).1 };
-  one_colour = λ frame low high.
-      let place : start + (frame - start) ≡ frame = omega arith in
-      subst (λ n. IsSingle (tints_of scene run n column row)) place ((each (frame - start) (omega arith)).2);
-} where
-  each : (k : ℕ) → k ≤ window_of setup
-      → (k ≡ k) × (slice_get at.seen k ≡ Some (tints_of scene run (start + k) column row)) × IsSingle (tints_of scene run (start + k) column row)
-  each k within =
+  whole = at.whole;
+  each = λ k within.
       elim (slice_get_cases at.seen k).1 [
         | inl found ↦
             let frame : 0 + (start + k) ≡ start + k = omega arith in
             let own_tint = subst (λ n. IsOwnTint scene setup n (cell_of edges.xs edges.ys i).x (cell_of edges.xs edges.ys i).y found.0) frame
             (own_tints.each (start + k) i found.0 known (at.each k found.0 found.2)) in
-            let same = seen-tint scene setup (frames_for setup windows) edges i start k column row run found.0 valid cut known (omega arith) within is inside own_tint in
-            (refl, found.2 ∙ ap Some same, subst IsSingle same own_tint.is_single)
+            found.2
+            ∙ ap Some (seen-tint scene setup (frames_for setup windows) edges i start k column row run found.0 valid cut known (omega arith) within is inside own_tint)
         | inr past ↦ absurd (let far = past.0 in omega (arith, at.whole))
-      ]
+      ];
+}
 
--- a flag by one of two sorts of chains is one by both, where there are none of the other
-either-way : {General Red Told : Type 0} {b : Type 0} → (b ↔ Told) → (Told ↔ General) → (Red → ⊥) → (b ↔ (General ⊎ Red))
-either-way told seen never = (
-  λ t. inl (seen.0 (told.0 t)),
-  λ either. elim either [ inl general ↦ told.1 (seen.1 general) | inr red ↦ absurd (never red) ],
+-- a flag by chains of two kinds, seen as chains of both kinds
+both-kinds : {General Red Seen SeenRed : Type 0} {b : Type 0} → (b ↔ (General ⊎ Red)) → (General ↔ Seen) → (Red ↔ SeenRed)
+    → (b ↔ (Seen ⊎ SeenRed))
+both-kinds told general red = (
+  λ t. elim (told.0 t) [ inl g ↦ inl (general.0 g) | inr r ↦ inr (red.0 r) ],
+  λ either. elim either [ inl g ↦ told.1 (inl (general.1 g)) | inr r ↦ told.1 (inr (red.1 r)) ],
 )
 
 flag-of : (scene : Scene) (setup : Setup) (windows : ℕ) (edges : Edges) (tints : List Tint) (i start : ℕ) (flag : Flag) → IsValid scene
-    → is_coloured scene ≡ false → IsCut scene setup (frames_for setup windows) edges
+    → IsCut scene setup (frames_for setup windows) edges
     → AreTintsOfCells scene setup edges 0 (frames_for setup windows) tints → i < cells_between edges.xs edges.ys → start < windows
     → IsFlagAt tints (cells_between edges.xs edges.ys) i (window_of setup) start flag → IsFlagOf scene setup start (cell_of edges.xs edges.ys i) flag
-flag-of scene setup windows edges tints i start flag valid none cut own_tints known before at = record {
+flag-of scene setup windows edges tints i start flag valid cut own_tints known before at = record {
   possible = λ run column row is inside.
+      let seen : ℕ → Tint = λ frame. tints_of scene run frame column row in
       let are = seen-tints scene setup windows edges tints i start column row run flag valid cut own_tints known before is inside at in
-      either-way at.possible
-      (has_chain-seen IsPossibleRise IsPossibleFall (λ frame. tints_of scene run frame column row) start (window_of setup) at.seen are.seen)
-      (never-possibly_red scene setup start run column row valid none is are.one_colour);
+      both-kinds at.possible (has_chain-seen IsPossibleRise IsPossibleFall seen start (window_of setup) at.seen are)
+      (has_chain-seen IsPossiblyIntoRed IsPossiblyOutOfRed seen start (window_of setup) at.seen are);
   sure = λ run column row is inside.
+      let seen : ℕ → Tint = λ frame. tints_of scene run frame column row in
       let are = seen-tints scene setup windows edges tints i start column row run flag valid cut own_tints known before is inside at in
-      either-way at.sure
-      (has_chain-seen IsSureRise IsSureFall (λ frame. tints_of scene run frame column row) start (window_of setup) at.seen are.seen)
-      (never-surely_red scene setup start run column row valid none is);
+      both-kinds at.sure (has_chain-seen IsSureRise IsSureFall seen start (window_of setup) at.seen are)
+      (has_chain-seen IsSurelyIntoRed IsSurelyOutOfRed seen start (window_of setup) at.seen are);
 }
 
 pub flags-are : (scene : Scene) (setup : Setup) (windows : ℕ) (edges : Edges) (tints : List Tint) (flags : List Flag) → IsValid scene
-    → is_coloured scene ≡ false → IsCut scene setup (frames_for setup windows) edges
+    → IsCut scene setup (frames_for setup windows) edges
     → AreTintsOfCells scene setup edges 0 (frames_for setup windows) tints
     → AreFlagsBefore tints (cells_between edges.xs edges.ys) (window_of setup) windows (cells_between edges.xs edges.ys) flags
     → AreFlags scene setup edges windows flags
-flags-are scene setup windows edges tints flags valid none cut own_tints are = record {
+flags-are scene setup windows edges tints flags valid cut own_tints are = record {
   all = are.all;
   each = λ cell start flag known before there.
-      flag-of scene setup windows edges tints cell start flag valid none cut own_tints known before (are.each cell start flag known before there);
+      flag-of scene setup windows edges tints cell start flag valid cut own_tints known before (are.each cell start flag known before there);
 }

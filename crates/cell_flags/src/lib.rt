@@ -5,8 +5,7 @@
 //! whether it surely flashes too often. The key clause, `AreFlags`, speaks of every pixel: with the states of the layers, whatever
 //! they are, the flag of a cell in a window is that of each of its pixels by the pixel's own tints.
 //!
-//! A scene without colours other than grey never turns red, nor does one in which nothing changes; so only rises and falls of
-//! luminance are counted, and the flags are those of both sorts of flashes. Where flagged pixels lie close together is not said.
+//! The flags are those of both sorts of flashes, of luminance and of red. Where flagged pixels lie close together is not said.
 #![tactic(auto)]
 
 mod cells;

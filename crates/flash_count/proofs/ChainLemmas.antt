@@ -1,14 +1,14 @@
 -- A chain of places is a run of nine, with either change first.
-use Rattle.std.proofs.Common.{ℕ, zero, suc, ◌≡◌, ◌⊎◌, ◌+◌, ◌-◌, ◌<◌, ◌≤◌, List, [], ◌∷◌, length, get_or, arith, inl, inr, refl, subst, ap}
-use Rattle.std.specs.Prelude.{true, false, Option, Some, None, IsTrue, ◌↔◌, is_some}
+use Rattle.std.proofs.Common.{ℕ, zero, suc, ◌≡◌, ◌⊎◌, ◌+◌, ◌-◌, ◌<◌, ◌≤◌, List, [], ◌∷◌, length, get_or, arith, inl, inr, subst, ap}
+use Rattle.std.specs.Prelude.{Option, Some, None}
 use Rattle.std.specs.List.{All}
 use Rattle.std.specs.List.Sorted.{IsStrictlyIncreasing}
 use Rattle.std.proofs.lemmas.List.{get_or_default}
 use Rattle.std.proofs.lemmas.Option.{slice_get_within}
 use Rattle.page_model.specs.Flash.{Alternates}
-use Rattle.flash_count.specs.Chains.{HasChainOf, IsChainOf, IsChangeAt}
+use Rattle.flash_count.specs.Chains.{IsChainOf, IsChangeAt}
 use Rattle.flash_count.specs.Counting.{AreCounts, Begins, IsCount, IsFirstFull}
-use Rattle.flash_count.specs.Runs.{Follows, IsRun}
+use Rattle.flash_count.specs.Runs.{FirstOf, Follows, IsRun}
 use Rattle.flash_count.proofs.RunLemmas.{begins-follows, follows-begins}
 
 -- what rises, rises behind its first number
@@ -122,15 +122,6 @@ full-run R S place count rest counted (long, follows) =
     let most = counted.most 8 (omega arith) begins in
     omega (arith, counted.small)
 
--- a place whose count is eight shows a chain
-pub chain-full : {C : Type 0} (Up Down : C → C → Type 0) (items : List C) (counts : List ℕ) (found : Option ℕ)
-    → AreCounts (IsChangeAt Up items) (IsChangeAt Down items) 0 (length items) counts
-    → IsFirstFull counts (length items) found → is_some found ≡ true
-    → (places : List ℕ) × IsRun (IsChangeAt Up items) (IsChangeAt Down items) places
-chain-full Up Down items counts None are full some = absurd (cc)
-chain-full Up Down items counts (Some place) are (inside, eight, first) some =
-    run-full (IsChangeAt Up items) (IsChangeAt Down items) place (get_or counts place 0) (are place (omega arith) inside) eight
-
 -- and where there is none, there is no run
 pub no_run-full : {C : Type 0} (Up Down : C → C → Type 0) (items : List C) (counts : List ℕ)
     → AreCounts (IsChangeAt Up items) (IsChangeAt Down items) 0 (length items) counts
@@ -154,26 +145,12 @@ first-full Up Down items counts start are (inside, eight, first) k (j ∷ rest) 
     first k within (full-run (IsChangeAt Up items) (IsChangeAt Down items) k (get_or counts k 0) (j ∷ rest)
     (are k (omega arith) within) (long, (above, change, follows)))
 
--- the second of two searches decides where the first found nothing
-pub chain-second : {C : Type 0} (Up Down : C → C → Type 0) (items : List C) (one other : List ℕ) (none found : Option ℕ)
-    → AreCounts (IsChangeAt Up items) (IsChangeAt Down items) 0 (length items) one
-    → AreCounts (IsChangeAt Down items) (IsChangeAt Up items) 0 (length items) other
-    → IsFirstFull one (length items) none → is_some none ≡ false → IsFirstFull other (length items) found
-    → IsTrue (is_some found) ↔ HasChainOf Up Down items
-chain-second Up Down items one other (Some k) found are be full empty second = absurd (cc)
-chain-second Up Down items one other None None are be full empty second = (
-  λ some. absurd (cc),
-  λ has. elim (run-chain Up Down items has.0 has.1) [
-    | inl run ↦ absurd (no_run-full Up Down items one are full has.0 run)
-    | inr run ↦ absurd (no_run-full Down Up items other be second has.0 run)
-  ],
-)
-chain-second Up Down items one other None (Some place) are be full empty second =
-    (λ some. let run = chain-full Down Up items other (Some place) be second refl in (run.0, chain-run Up Down items run.0 (inr run.1)), λ has. refl)
-
--- none of the runs with either change first, so no chain
-pub no_chain : {C : Type 0} (Up Down : C → C → Type 0) (items : List C)
-    → ((places : List ℕ) → IsRun (IsChangeAt Up items) (IsChangeAt Down items) places
-    ⊎ IsRun (IsChangeAt Down items) (IsChangeAt Up items) places → ⊥)
-    → HasChainOf Up Down items → ⊥
-no_chain Up Down items without has = without has.0 (run-chain Up Down items has.0 has.1)
+-- the first run with either change first is the first chain
+pub first-chain : {C : Type 0} (Up Down : C → C → Type 0) (items : List C) (found : Option (List ℕ))
+    → FirstOf (λ places. IsRun (IsChangeAt Up items) (IsChangeAt Down items) places ⊎ IsRun (IsChangeAt Down items) (IsChangeAt Up items) places) found
+    → FirstOf (IsChainOf Up Down items) found
+first-chain Up Down items None none = λ places chain. none places (run-chain Up Down items places chain)
+first-chain Up Down items (Some places) first = record {
+  has = chain-run Up Down items places first.has;
+  first = λ others chain. first.first others (run-chain Up Down items others chain);
+}

@@ -7,7 +7,7 @@ use Rattle.std.proofs.lemmas.Nat.{div-add-mod'}
 use Rattle.std.proofs.lemmas.Option.{slice_get_within}
 use Rattle.page_model.specs.declared.colour.Tint.{Tint}
 use Rattle.flash_count.specs.declared.changes.Change.{Change}
-use Rattle.flash_count.specs.declared.changes.Change.TheVariants.{PossibleRise, PossibleFall, SureRise, SureFall}
+use Rattle.flash_count.specs.declared.changes.Change.TheVariants.{PossibleRise, PossibleFall, SureRise, SureFall, PossiblyIntoRed, PossiblyOutOfRed, SurelyIntoRed, SurelyOutOfRed}
 use Rattle.flash_count.specs.Counting.{Makes, MakesAt}
 use Rattle.flash_count.specs.Rows.{EndsBefore, EndsWith, StandsFor, TellsOf, byte, column_of, is_sure, number_of, opposite_of, tint_in, words_at}
 use Rattle.flash_count.specs.Pushing.{LoweredIf}
@@ -21,12 +21,20 @@ opposite-twice PossibleRise = refl
 opposite-twice PossibleFall = refl
 opposite-twice SureRise = refl
 opposite-twice SureFall = refl
+opposite-twice PossiblyIntoRed = refl
+opposite-twice PossiblyOutOfRed = refl
+opposite-twice SurelyIntoRed = refl
+opposite-twice SurelyOutOfRed = refl
 
 pub column-below : (change : Change) → column_of change < 9
 column-below PossibleRise = omega arith
 column-below PossibleFall = omega arith
 column-below SureRise = omega arith
 column-below SureFall = omega arith
+column-below PossiblyIntoRed = omega arith
+column-below PossiblyOutOfRed = omega arith
+column-below SurelyIntoRed = omega arith
+column-below SurelyOutOfRed = omega arith
 
 -- a change between two frames stays one where a tint is added, and was one before
 pub change-grown : (change : Change) (tints : List Tint) (tint : Tint) (j k : ℕ) → MakesAt change tints j k
@@ -230,56 +238,105 @@ ended-later rate turn sure tints before number some is here =
     (latest-later (EndsBefore sure tints turn) rate (turn - 1) turn 1 before
     (subst (λ m. IsLatest (EndsBefore sure tints m) rate (turn - 1) before) at here) at)
 
--- with those that end at the next frame, by a change or its opposite
-pub ended-more : (rate turn : ℕ) (sure : Bool) (tints : List Tint) (tint : Tint) (before one other number : ℕ) (rise : Change)
-    → turn ≡ length tints → is_sure rise ≡ sure → is_sure (opposite_of rise) ≡ sure
-    → ((change : Change) → is_sure change ≡ sure → (change ≡ rise) ⊎ (change ≡ opposite_of rise))
-    → number ≡ min (min before one) other → IsLatest (EndsBefore sure tints turn) rate turn before
+-- a change is one of two, or the opposite of one of them
+abbrev pub IsOneOf : Change → Change → Change → Type 0
+IsOneOf rise into change = ((change ≡ rise) ⊎ (change ≡ opposite_of rise)) ⊎ ((change ≡ into) ⊎ (change ≡ opposite_of into))
+
+-- the changes of one sort are two, of luminance and of red, and their opposites
+pub record AreOfSort (sure : Bool) (rise into : Change) : Type 0 where
+  pub rises : is_sure rise ≡ sure
+  pub falls : is_sure (opposite_of rise) ≡ sure
+  pub goes_in : is_sure into ≡ sure
+  pub goes_out : is_sure (opposite_of into) ≡ sure
+  pub only : (change : Change) → is_sure change ≡ sure → IsOneOf rise into change
+
+-- chains that ended before a frame, or that end at it by one of these changes
+abbrev EndsAny : Bool → Change → Change → List Tint → ℕ → ℕ → Type 0
+EndsAny sure rise into all turn s =
+    (((EndsBefore sure all turn s ⊎ EndsWith rise all 8 turn s) ⊎ EndsWith (opposite_of rise) all 8 turn s)
+    ⊎ EndsWith into all 8 turn s) ⊎ EndsWith (opposite_of into) all 8 turn s
+
+ends-here : (change : Change) (sure : Bool) (all : List Tint) (turn s : ℕ) → is_sure change ≡ sure → EndsWith change all 8 turn s
+    → EndsBefore sure all (turn + 1) s
+ends-here change sure all turn s right ends = record { end = turn; change = change; sort = right; before = omega arith; ends = ends }
+
+ends-any : (sure : Bool) (rise into : Change) (all : List Tint) (turn s : ℕ) → AreOfSort sure rise into → EndsAny sure rise into all turn s
+    → EndsBefore sure all (turn + 1) s
+ends-any sure rise into all turn s sort (inl (inl (inl (inl old)))) =
+    record { end = old.end; change = old.change; sort = old.sort; before = omega (arith, old.before); ends = old.ends }
+ends-any sure rise into all turn s sort (inl (inl (inl (inr ends)))) = ends-here rise sure all turn s sort.rises ends
+ends-any sure rise into all turn s sort (inl (inl (inr ends))) = ends-here (opposite_of rise) sure all turn s sort.falls ends
+ends-any sure rise into all turn s sort (inl (inr ends)) = ends-here into sure all turn s sort.goes_in ends
+ends-any sure rise into all turn s sort (inr ends) = ends-here (opposite_of into) sure all turn s sort.goes_out ends
+
+any-at : (change : Change) (sure : Bool) (rise into : Change) (all : List Tint) (turn s : ℕ) → IsOneOf rise into change
+    → EndsWith change all 8 turn s → EndsAny sure rise into all turn s
+any-at change sure rise into all turn s (inl (inl same)) ends =
+    inl (inl (inl (inr (subst (λ (c : Change). EndsWith c all 8 turn s) same ends))))
+any-at change sure rise into all turn s (inl (inr same)) ends =
+    inl (inl (inr (subst (λ (c : Change). EndsWith c all 8 turn s) same ends)))
+any-at change sure rise into all turn s (inr (inl same)) ends = inl (inr (subst (λ (c : Change). EndsWith c all 8 turn s) same ends))
+any-at change sure rise into all turn s (inr (inr same)) ends = inr (subst (λ (c : Change). EndsWith c all 8 turn s) same ends)
+
+any-ends : (sure : Bool) (rise into : Change) (all : List Tint) (turn s : ℕ) → AreOfSort sure rise into → EndsBefore sure all (turn + 1) s
+    → EndsAny sure rise into all turn s
+any-ends sure rise into all turn s sort found = elim (cases_lt found.end turn) [
+  | inl early ↦
+      inl (inl (inl (inl (record { end = found.end; change = found.change; sort = found.sort; before = early; ends = found.ends }))))
+  | inr late ↦
+      let at : found.end ≡ turn = omega (arith, found.before) in
+      any-at found.change sure rise into all turn s (sort.only found.change found.sort)
+      (subst (λ e. EndsWith found.change all 8 e s) at found.ends)
+]
+
+-- with those that end at the next frame, by each of the changes
+pub ended-more : (rate turn : ℕ) (sure : Bool) (tints : List Tint) (tint : Tint) (before one two three four number : ℕ) (rise into : Change)
+    → AreOfSort sure rise into → turn ≡ length tints
+    → number ≡ min (min (min (min before one) two) three) four → IsLatest (EndsBefore sure tints turn) rate turn before
     → IsLatest (EndsWith rise (tints ++ tint ∷ []) 8 turn) rate turn one
-    → IsLatest (EndsWith (opposite_of rise) (tints ++ tint ∷ []) 8 turn) rate turn other
+    → IsLatest (EndsWith (opposite_of rise) (tints ++ tint ∷ []) 8 turn) rate turn two
+    → IsLatest (EndsWith into (tints ++ tint ∷ []) 8 turn) rate turn three
+    → IsLatest (EndsWith (opposite_of into) (tints ++ tint ∷ []) 8 turn) rate turn four
     → IsLatest (EndsBefore sure (tints ++ tint ∷ []) (turn + 1)) rate turn number
-ended-more rate turn sure tints tint before one other number rise last first second only is ended ends opposed =
+ended-more rate turn sure tints tint before one two three four number rise into sort last is ended rises falls goes_in goes_out =
     let all : List Tint = tints ++ tint ∷ [] in
     let Old : ℕ → Type 0 = EndsBefore sure all turn in
-    let Rise : ℕ → Type 0 = EndsWith rise all 8 turn in
-    let Fall : ℕ → Type 0 = EndsWith (opposite_of rise) all 8 turn in
-    latest-same (λ s. (Old s ⊎ Rise s) ⊎ Fall s) (EndsBefore sure all (turn + 1)) rate turn number
-    (λ s is_one. elim is_one [
-      | inl old ↦ elim old [
-        | inl early ↦ record { end = early.end; change = early.change; sort = early.sort; before = omega (arith, early.before); ends = early.ends }
-        | inr rises ↦ record { end = turn; change = rise; sort = first; before = omega arith; ends = rises }
-      ]
-      | inr falls ↦ record { end = turn; change = opposite_of rise; sort = second; before = omega arith; ends = falls }
-    ])
-    (λ s found near. (
-      s,
-      omega arith,
-      elim (cases_lt found.end turn) [
-        | inl early ↦ inl (inl (record { end = found.end; change = found.change; sort = found.sort; before = early; ends = found.ends }))
-        | inr late ↦
-            let at : found.end ≡ turn = omega (arith, found.before) in
-            let here = subst (λ e. EndsWith found.change all 8 e s) at found.ends in
-            elim (only found.change found.sort) [
-              | inl same ↦ inl (inr (subst (λ (c : Change). EndsWith c all 8 turn s) same here))
-              | inr same ↦ inr (subst (λ (c : Change). EndsWith c all 8 turn s) same here)
-            ]
-      ],
-    ))
-    (subst (IsLatest (λ s. (Old s ⊎ Rise s) ⊎ Fall s) rate turn) (sym is)
-    (latest-both (λ s. Old s ⊎ Rise s) Fall rate turn (min before one) other
-    (latest-both Old Rise rate turn before one (latest_before-grown sure tints tint turn rate turn before (omega arith) ended) ends) opposed))
+    let At : Change → ℕ → Type 0 = λ change. EndsWith change all 8 turn in
+    latest-same (EndsAny sure rise into all turn) (EndsBefore sure all (turn + 1)) rate turn number
+    (λ s found. ends-any sure rise into all turn s sort found) (λ s found near. (s, omega arith, any-ends sure rise into all turn s sort found))
+    (subst (IsLatest (EndsAny sure rise into all turn) rate turn) (sym is)
+    (latest-both (λ s. ((Old s ⊎ At rise s) ⊎ At (opposite_of rise) s) ⊎ At into s) (At (opposite_of into)) rate turn
+    (min (min (min before one) two) three) four
+    (latest-both (λ s. (Old s ⊎ At rise s) ⊎ At (opposite_of rise) s) (At into) rate turn (min (min before one) two) three
+    (latest-both (λ s. Old s ⊎ At rise s) (At (opposite_of rise)) rate turn (min before one) two
+    (latest-both Old (At rise) rate turn before one (latest_before-grown sure tints tint turn rate turn before (omega arith) ended) rises) falls) goes_in)
+    goes_out))
 
-pub possible-changes : (change : Change) → is_sure change ≡ false → (change ≡ PossibleRise) ⊎ (change ≡ PossibleFall)
-possible-changes PossibleRise sort = inl refl
-possible-changes PossibleFall sort = inr refl
-possible-changes SureRise sort = absurd (cc)
-possible-changes SureFall sort = absurd (cc)
+one-possible : (change : Change) → is_sure change ≡ false → IsOneOf PossibleRise PossiblyIntoRed change
+one-possible PossibleRise sort = inl (inl refl)
+one-possible PossibleFall sort = inl (inr refl)
+one-possible PossiblyIntoRed sort = inr (inl refl)
+one-possible PossiblyOutOfRed sort = inr (inr refl)
+one-possible SureRise sort = absurd (cc)
+one-possible SureFall sort = absurd (cc)
+one-possible SurelyIntoRed sort = absurd (cc)
+one-possible SurelyOutOfRed sort = absurd (cc)
 
-pub sure-changes : (change : Change) → is_sure change ≡ true → (change ≡ SureRise) ⊎ (change ≡ SureFall)
-sure-changes PossibleRise sort = absurd (cc)
-sure-changes PossibleFall sort = absurd (cc)
-sure-changes SureRise sort = inl refl
-sure-changes SureFall sort = inr refl
+one-sure : (change : Change) → is_sure change ≡ true → IsOneOf SureRise SurelyIntoRed change
+one-sure SureRise sort = inl (inl refl)
+one-sure SureFall sort = inl (inr refl)
+one-sure SurelyIntoRed sort = inr (inl refl)
+one-sure SurelyOutOfRed sort = inr (inr refl)
+one-sure PossibleRise sort = absurd (cc)
+one-sure PossibleFall sort = absurd (cc)
+one-sure PossiblyIntoRed sort = absurd (cc)
+one-sure PossiblyOutOfRed sort = absurd (cc)
+
+pub possible-sort : AreOfSort false PossibleRise PossiblyIntoRed
+possible-sort = record { rises = refl; falls = refl; goes_in = refl; goes_out = refl; only = one-possible }
+
+pub sure-sort : AreOfSort true SureRise SurelyIntoRed
+sure-sort = record { rises = refl; falls = refl; goes_in = refl; goes_out = refl; only = one-sure }
 
 -- two frames of one window have places of their own
 mod-apart : (j k window : ℕ) → j < k → k < j + window → (j % window ≡ k % window) → ⊥
@@ -335,35 +392,56 @@ word-starts rate turn all change starts word are is zero few = latest-self rate 
 word-starts rate turn all change starts word are is (suc n) few =
     subst (IsLatest (EndsWith change all (suc n) turn) rate turn) (sym (is n)) (are n (omega arith))
 
+-- the words of the eight changes
+pub record ChangeWords : Type 0 where
+  pub rise : ℕ
+  pub fall : ℕ
+  pub sure_rise : ℕ
+  pub sure_fall : ℕ
+  pub into : ℕ
+  pub out : ℕ
+  pub sure_into : ℕ
+  pub sure_out : ℕ
+
+abbrev pub words_in : ℕ → ChangeWords → List ℕ
+words_in first w = first ∷ w.rise ∷ w.fall ∷ w.sure_rise ∷ w.sure_fall ∷ w.into ∷ w.out ∷ w.sure_into ∷ w.sure_out ∷ []
+
+-- a word has the numbers of a change at the next frame
+abbrev pub HasStarts : ℕ → ℕ → List Tint → Change → ℕ → Type 0
+HasStarts rate turn all change word = (n : ℕ) → n ≤ 8 → IsLatest (EndsWith change all n turn) rate turn (number_of word n)
+
 -- what the nine words of the next frame have
-pub record HaveNext (rate turn : ℕ) (all : List Tint) (tint : Tint) (first rise fall sure_rise sure_fall : ℕ) : Type 0 where
+pub record HaveNext (rate turn : ℕ) (all : List Tint) (tint : Tint) (first : ℕ) (w : ChangeWords) : Type 0 where
   pub last : slice_get all turn ≡ Some tint
   pub holds : tint_in first ≡ tint
-  pub rises : (n : ℕ) → n ≤ 8 → IsLatest (EndsWith PossibleRise all n turn) rate turn (number_of rise n)
-  pub falls : (n : ℕ) → n ≤ 8 → IsLatest (EndsWith PossibleFall all n turn) rate turn (number_of fall n)
-  pub sure_rises : (n : ℕ) → n ≤ 8 → IsLatest (EndsWith SureRise all n turn) rate turn (number_of sure_rise n)
-  pub sure_falls : (n : ℕ) → n ≤ 8 → IsLatest (EndsWith SureFall all n turn) rate turn (number_of sure_fall n)
+  pub rises : HasStarts rate turn all PossibleRise w.rise
+  pub falls : HasStarts rate turn all PossibleFall w.fall
+  pub sure_rises : HasStarts rate turn all SureRise w.sure_rise
+  pub sure_falls : HasStarts rate turn all SureFall w.sure_fall
+  pub goes_in : HasStarts rate turn all PossiblyIntoRed w.into
+  pub goes_out : HasStarts rate turn all PossiblyOutOfRed w.out
+  pub surely_in : HasStarts rate turn all SurelyIntoRed w.sure_into
+  pub surely_out : HasStarts rate turn all SurelyOutOfRed w.sure_out
   pub possible : IsLatest (EndsBefore false all (turn + 1)) rate turn (byte first 6)
   pub sure : IsLatest (EndsBefore true all (turn + 1)) rate turn (byte first 7)
 
-abbrev pub words_in : ℕ → ℕ → ℕ → ℕ → ℕ → List ℕ
-words_in first rise fall sure_rise sure_fall = first ∷ rise ∷ fall ∷ sure_rise ∷ sure_fall ∷ 0 ∷ 0 ∷ 0 ∷ 0 ∷ []
-
-pub words-tell : (rate turn : ℕ) (all : List Tint) (tint : Tint) (first rise fall sure_rise sure_fall : ℕ)
-    → HaveNext rate turn all tint first rise fall sure_rise sure_fall
-    → TellsOf rate all turn (λ i. get_or (words_in first rise fall sure_rise sure_fall) i 0)
-words-tell rate turn all tint first rise fall sure_rise sure_fall have = record {
+pub words-tell : (rate turn : ℕ) (all : List Tint) (tint : Tint) (first : ℕ) (w : ChangeWords) → HaveNext rate turn all tint first w
+    → TellsOf rate all turn (λ i. get_or (words_in first w) i 0)
+words-tell rate turn all tint first w have = record {
   tint = have.last ∙ ap Some (sym have.holds);
   starts = starts;
   possible = have.possible;
   sure = have.sure;
 } where
-  starts : (change : Change) (n : ℕ) → n ≤ 8
-      → IsLatest (EndsWith change all n turn) rate turn (number_of (get_or (words_in first rise fall sure_rise sure_fall) (column_of change) 0) n)
-  starts PossibleRise n few = have.rises n few
-  starts PossibleFall n few = have.falls n few
-  starts SureRise n few = have.sure_rises n few
-  starts SureFall n few = have.sure_falls n few
+  starts : (change : Change) → HasStarts rate turn all change (get_or (words_in first w) (column_of change) 0)
+  starts PossibleRise = have.rises
+  starts PossibleFall = have.falls
+  starts SureRise = have.sure_rises
+  starts SureFall = have.sure_falls
+  starts PossiblyIntoRed = have.goes_in
+  starts PossiblyOutOfRed = have.goes_out
+  starts SurelyIntoRed = have.surely_in
+  starts SurelyOutOfRed = have.surely_out
 
 pub last-is : (tints : List Tint) (tint : Tint) (turn : ℕ) → length tints ≡ turn → slice_get (tints ++ tint ∷ []) turn ≡ Some tint
 last-is tints tint turn count = ap (λ k. slice_get (tints ++ tint ∷ []) k) (sym count) ∙ slice_get-end tints tint

@@ -1,9 +1,11 @@
--- Chains in a list of tints: nine places whose eight changes are opposing ones in turn, as four flashes make them (WCAG 2.2's
--- general flash: more than three are too many). The changes may be between any two of the tints, neighbours or not.
-use Rattle.std.specs.Prelude.{ℕ, ◌≡◌, ◌-◌, Some, List, length, slice_get}
+-- Chains in a list of tints: nine places whose eight changes are opposing ones in turn, as four flashes make them (WCAG 2.2: more
+-- than three are too many). They are changes of luminance, or else changes into and out of saturated red, and never both in one
+-- chain. They may be between any two of the tints, neighbours or not.
+use Rattle.std.specs.Prelude.{ℕ, ◌≡◌, ◌⊎◌, ◌-◌, Some, List, length, slice_get}
 use Rattle.page_model.specs.declared.colour.Tint.{Tint}
-use Rattle.page_model.specs.declared.witness.Kind.TheVariants.{General}
-use Rattle.page_model.specs.Change.{IsPossibleRise, IsPossibleFall, IsSureRise, IsSureFall}
+use Rattle.page_model.specs.declared.witness.Kind.{Kind}
+use Rattle.page_model.specs.declared.witness.Kind.TheVariants.{General, Red}
+use Rattle.page_model.specs.Change.{IsPossibleRise, IsPossibleFall, IsSureRise, IsSureFall, IsPossiblyIntoRed, IsPossiblyOutOfRed, IsSurelyIntoRed, IsSurelyOutOfRed}
 use Rattle.page_model.specs.Flash.{IsChain, IsNoLater}
 use Rattle.flash_count.specs.declared.tracing.Trace.{Trace}
 
@@ -23,16 +25,26 @@ IsChainOf Up Down items places = IsChain (IsChangeAt Up items) (IsChangeAt Down 
 abbrev pub HasChainOf : {C : Type 0} → (C → C → Type 0) → (C → C → Type 0) → List C → Type 0
 HasChainOf Up Down items = (places : List ℕ) × IsChainOf Up Down items places
 
--- some places of these tints are a chain of possible changes
+-- some places of these tints are a chain of possible changes, of luminance or of red
 abbrev pub HasPossibleChain : List Tint → Type 0
-HasPossibleChain tints = HasChainOf IsPossibleRise IsPossibleFall tints
+HasPossibleChain tints = HasChainOf IsPossibleRise IsPossibleFall tints ⊎ HasChainOf IsPossiblyIntoRed IsPossiblyOutOfRed tints
 
--- some places of these tints are a chain of sure changes
+-- these places are a chain of sure changes of a kind
+abbrev pub IsSureChainOf : Kind → List Tint → List ℕ → Type 0
+IsSureChainOf General tints places = IsChainOf IsSureRise IsSureFall tints places
+IsSureChainOf Red tints places = IsChainOf IsSurelyIntoRed IsSurelyOutOfRed tints places
+
+-- some places are
+abbrev pub HasSureChainOf : Kind → List Tint → Type 0
+HasSureChainOf kind tints = (places : List ℕ) × IsSureChainOf kind tints places
+
+-- some places are, of one kind or the other
 abbrev pub HasSureChain : List Tint → Type 0
-HasSureChain tints = HasChainOf IsSureRise IsSureFall tints
+HasSureChain tints = HasSureChainOf General tints ⊎ HasSureChainOf Red tints
 
--- the trace tells a chain of sure changes, the first of all by the places from the front
+-- the trace tells a chain of sure changes, of red only where there is none of luminance, and the first of its kind by the places
+-- from the front
 pub record IsFirstTrace (tints : List Tint) (trace : Trace) : Type 0 where
-  pub general : trace.kind ≡ General
-  pub chain : IsChainOf IsSureRise IsSureFall tints trace.places
-  pub first : (places : List ℕ) → IsChainOf IsSureRise IsSureFall tints places → IsNoLater trace.places places
+  pub general_first : trace.kind ≡ Red → HasSureChainOf General tints → ⊥
+  pub chain : IsSureChainOf trace.kind tints trace.places
+  pub first : (places : List ℕ) → IsSureChainOf trace.kind tints places → IsNoLater trace.places places

@@ -1,10 +1,10 @@
 -- How many opposing changes in turn can be had from a place.
 use Rattle.std.specs.Prelude.{ℕ, zero, suc, ◌≡◌, ◌<◌, ◌≤◌, Option, MatchOption, List, length, slice_index}
 use Rattle.page_model.specs.declared.colour.Tint.{Tint}
-use Rattle.page_model.specs.Change.{IsPossibleRise, IsPossibleFall, IsSureRise, IsSureFall}
+use Rattle.page_model.specs.Change.{IsPossibleRise, IsPossibleFall, IsSureRise, IsSureFall, IsPossiblyIntoRed, IsPossiblyOutOfRed, IsSurelyIntoRed, IsSurelyOutOfRed}
 use Rattle.flash_count.specs.declared.changes.Change.{Change}
 use Rattle.flash_count.specs.declared.changes.Opposing.{Opposing}
-use Rattle.flash_count.specs.declared.changes.Change.TheVariants.{PossibleRise, PossibleFall, SureRise, SureFall}
+use Rattle.flash_count.specs.declared.changes.Change.TheVariants.{PossibleRise, PossibleFall, SureRise, SureFall, PossiblyIntoRed, PossiblyOutOfRed, SurelyIntoRed, SurelyOutOfRed}
 use Rattle.flash_count.specs.Chains.{IsChangeAt}
 
 -- two tints make a change of a sort
@@ -13,6 +13,10 @@ Makes PossibleRise a b = IsPossibleRise a b
 Makes PossibleFall a b = IsPossibleFall a b
 Makes SureRise a b = IsSureRise a b
 Makes SureFall a b = IsSureFall a b
+Makes PossiblyIntoRed a b = IsPossiblyIntoRed a b
+Makes PossiblyOutOfRed a b = IsPossiblyOutOfRed a b
+Makes SurelyIntoRed a b = IsSurelyIntoRed a b
+Makes SurelyOutOfRed a b = IsSurelyOutOfRed a b
 
 -- the tints at two places make a change of a sort
 abbrev pub MakesAt : Change → List Tint → ℕ → ℕ → Type 0

@@ -5,7 +5,7 @@ use Rattle.std.specs.Prelude.{ℕ, zero, suc, ◌≡◌, ◌+◌, ◌*◌, ◌%�
 use Rattle.std.specs.Int.{w64, to_le_bytes}
 use Rattle.page_model.specs.declared.colour.Tint.{Tint}
 use Rattle.flash_count.specs.declared.changes.Change.{Change}
-use Rattle.flash_count.specs.declared.changes.Change.TheVariants.{PossibleRise, PossibleFall, SureRise, SureFall}
+use Rattle.flash_count.specs.declared.changes.Change.TheVariants.{PossibleRise, PossibleFall, SureRise, SureFall, PossiblyIntoRed, PossiblyOutOfRed, SurelyIntoRed, SurelyOutOfRed}
 use Rattle.flash_count.specs.Counting.{MakesAt}
 use Rattle.flash_count.specs.Starts.{IsLatest, Leads}
 
@@ -15,6 +15,10 @@ opposite_of PossibleRise = PossibleFall
 opposite_of PossibleFall = PossibleRise
 opposite_of SureRise = SureFall
 opposite_of SureFall = SureRise
+opposite_of PossiblyIntoRed = PossiblyOutOfRed
+opposite_of PossiblyOutOfRed = PossiblyIntoRed
+opposite_of SurelyIntoRed = SurelyOutOfRed
+opposite_of SurelyOutOfRed = SurelyIntoRed
 
 -- a change is one of all colours of two tints, and not of some
 abbrev pub is_sure : Change → Bool
@@ -22,6 +26,10 @@ is_sure PossibleRise = false
 is_sure PossibleFall = false
 is_sure SureRise = true
 is_sure SureFall = true
+is_sure PossiblyIntoRed = false
+is_sure PossiblyOutOfRed = false
+is_sure SurelyIntoRed = true
+is_sure SurelyOutOfRed = true
 
 -- the place among a frame's nine words of that of a change
 abbrev pub column_of : Change → ℕ
@@ -29,6 +37,10 @@ column_of PossibleRise = 1
 column_of PossibleFall = 2
 column_of SureRise = 3
 column_of SureFall = 4
+column_of PossiblyIntoRed = 5
+column_of PossiblyOutOfRed = 6
+column_of SurelyIntoRed = 7
+column_of SurelyOutOfRed = 8
 
 -- the bytes of a word, the lowest first
 unfoldable pub byte : ℕ → ℕ → ℕ

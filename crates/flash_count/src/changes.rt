@@ -4,6 +4,7 @@ ghost use Rattle.flash_count.specs.Counting.{Makes, MakesAt};
 ghost use Rattle.flash_count.specs.Rows.{column_of, opposite_of};
 
 use page_model::Tint;
+use red_chroma::{into_possible, into_sure, out_possible, out_sure};
 use srgb_luma::{fall_possible, fall_sure, rise_possible, rise_sure};
 
 /// A change that two tints may make.
@@ -13,6 +14,10 @@ pub(crate) enum Change {
     PossibleFall,
     SureRise,
     SureFall,
+    PossiblyIntoRed,
+    PossiblyOutOfRed,
+    SurelyIntoRed,
+    SurelyOutOfRed,
 }
 
 /// Two opposing changes, and which of them comes first.
@@ -35,10 +40,16 @@ impl Opposing {
     }
 }
 
-/// The changes that all colours of two tints make.
+/// The changes of luminance that all colours of two tints make.
 pub(crate) const SURE: Opposing = Opposing {
     first: Change::SureRise,
     second: Change::SureFall,
+};
+
+/// The changes of red that all colours of two tints make.
+pub(crate) const SURE_RED: Opposing = Opposing {
+    first: Change::SurelyIntoRed,
+    second: Change::SurelyOutOfRed,
 };
 
 impl Change {
@@ -51,6 +62,10 @@ impl Change {
             Change::PossibleFall => Change::PossibleRise,
             Change::SureRise => Change::SureFall,
             Change::SureFall => Change::SureRise,
+            Change::PossiblyIntoRed => Change::PossiblyOutOfRed,
+            Change::PossiblyOutOfRed => Change::PossiblyIntoRed,
+            Change::SurelyIntoRed => Change::SurelyOutOfRed,
+            Change::SurelyOutOfRed => Change::SurelyIntoRed,
         }
     }
 
@@ -64,6 +79,10 @@ impl Change {
             Change::PossibleFall => 2,
             Change::SureRise => 3,
             Change::SureFall => 4,
+            Change::PossiblyIntoRed => 5,
+            Change::PossiblyOutOfRed => 6,
+            Change::SurelyIntoRed => 7,
+            Change::SurelyOutOfRed => 8,
         }
     }
 
@@ -76,6 +95,10 @@ impl Change {
             Change::PossibleFall => fall_possible(from, to),
             Change::SureRise => rise_sure(from, to),
             Change::SureFall => fall_sure(from, to),
+            Change::PossiblyIntoRed => into_possible(from, to),
+            Change::PossiblyOutOfRed => out_possible(from, to),
+            Change::SurelyIntoRed => into_sure(from, to),
+            Change::SurelyOutOfRed => out_sure(from, to),
         }
     }
 

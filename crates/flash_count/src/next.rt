@@ -1,5 +1,5 @@
 // The words of the next frame.
-ghost use Rattle.std.specs.Prelude.{◌≡◌, ◌+◌, ◌*◌, ◌≤◌, false, true, length};
+ghost use Rattle.std.specs.Prelude.{◌≡◌, ◌+◌, ◌*◌, ◌≤◌, false, true, length, min};
 ghost use Rattle.flash_count.specs.Pushing.{IsEndedAfter, TellAfter};
 
 use crate::changes::Change;
@@ -37,6 +37,13 @@ fn chains_before(row: &[u64], rate: u16, turn: u32) -> LatestChains
     }
 }
 
+/// The least of five numbers.
+fn least(before: u8, rise: u8, fall: u8, into: u8, out: u8) -> u8
+    ensures { result ≡ min (min (min (min before rise) fall) into) out }
+{
+    before.min(rise).min(fall).min(into).min(out)
+}
+
 /// The words of the next frame, by looking back on all frames of the window.
 fn words_after(row: &[u64], rate: u16, turn: u32, tint: Tint) -> [u64; 9]
     requires some { 1 ≤ rate }
@@ -48,19 +55,29 @@ fn words_after(row: &[u64], rate: u16, turn: u32, tint: Tint) -> [u64; 9]
     let fall = starts_of(row, rate, turn, tint, Change::PossibleFall);
     let sure_rise = starts_of(row, rate, turn, tint, Change::SureRise);
     let sure_fall = starts_of(row, rate, turn, tint, Change::SureFall);
+    let into = starts_of(row, rate, turn, tint, Change::PossiblyIntoRed);
+    let out = starts_of(row, rate, turn, tint, Change::PossiblyOutOfRed);
+    let sure_into = starts_of(row, rate, turn, tint, Change::SurelyIntoRed);
+    let sure_out = starts_of(row, rate, turn, tint, Change::SurelyOutOfRed);
     let ended = chains_before(row, rate, turn);
-    let possible = ended.possible.min(rise[7]).min(fall[7]);
-    let sure = ended.sure.min(sure_rise[7]).min(sure_fall[7]);
+    let possible = least(ended.possible, rise[7], fall[7], into[7], out[7]);
+    let sure = least(
+        ended.sure,
+        sure_rise[7],
+        sure_fall[7],
+        sure_into[7],
+        sure_out[7],
+    );
     [
         first_word(tint, possible, sure),
         word_of(rise),
         word_of(fall),
         word_of(sure_rise),
         word_of(sure_fall),
-        0,
-        0,
-        0,
-        0,
+        word_of(into),
+        word_of(out),
+        word_of(sure_into),
+        word_of(sure_out),
     ]
 }
 

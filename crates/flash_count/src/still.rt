@@ -31,7 +31,19 @@ fn changes_nothing(tint: Tint) -> bool
     if Change::SureRise.is_made(tint, tint) {
         return false;
     }
-    !Change::SureFall.is_made(tint, tint)
+    if Change::SureFall.is_made(tint, tint) {
+        return false;
+    }
+    if Change::PossiblyIntoRed.is_made(tint, tint) {
+        return false;
+    }
+    if Change::PossiblyOutOfRed.is_made(tint, tint) {
+        return false;
+    }
+    if Change::SurelyIntoRed.is_made(tint, tint) {
+        return false;
+    }
+    !Change::SurelyOutOfRed.is_made(tint, tint)
 }
 
 /// Whether two tints are the same.
@@ -85,9 +97,9 @@ pub(crate) fn words_kept(row: &[u64], rate: u16, turn: u32, tint: Tint) -> [u64;
         later_word(row[9 * place + 2], rate),
         later_word(row[9 * place + 3], rate),
         later_word(row[9 * place + 4], rate),
-        0,
-        0,
-        0,
-        0,
+        later_word(row[9 * place + 5], rate),
+        later_word(row[9 * place + 6], rate),
+        later_word(row[9 * place + 7], rate),
+        later_word(row[9 * place + 8], rate),
     ]
 }

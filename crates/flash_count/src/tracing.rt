@@ -1,11 +1,11 @@
 // The first chain of a list of tints.
 ghost use Rattle.std.specs.Prelude.{◌≡◌, ◌+◌, ◌<◌, ◌≤◌, ◌↔◌, length, false, IsTrue, MatchOption};
 ghost use Rattle.page_model.specs.Flash.{IsNoLater};
-ghost use Rattle.flash_count.specs.Chains.{HasSureChain, IsFirstTrace};
-ghost use Rattle.flash_count.specs.Counting.{Begins, CountsFirst, CountsSecond, MakesAt};
-ghost use Rattle.flash_count.specs.Runs.{FirstRunOf, FollowsFirstOf, IsEarlier, LeadsOn, LeadsOnFirst};
+ghost use Rattle.flash_count.specs.Chains.{HasSureChain, IsChainOf, IsFirstTrace};
+ghost use Rattle.flash_count.specs.Counting.{Begins, CountsFirst, CountsSecond, Makes, MakesAt};
+ghost use Rattle.flash_count.specs.Runs.{FirstOf, FirstRunOf, FollowsFirstOf, IsEarlier, LeadsOn, LeadsOnFirst};
 
-use crate::changes::{Opposing, SURE};
+use crate::changes::{Opposing, SURE, SURE_RED};
 use crate::counting::{Counts, MOST, full_place};
 use page_model::{Kind, Tint};
 
@@ -20,19 +20,32 @@ pub struct Trace {
 }
 
 /// The first chain of sure changes: of all such nine places the least, compared place by place from
-/// the front. `None` exactly where there is none.
+/// the front. It is one of luminance, or one of red where there is none of luminance. `None` exactly
+/// where there is none of either kind.
 pub fn chain(tints: &[Tint]) -> Option<Trace>
     requires { length tints.now ≤ 241 }
     ensures { MatchOption result (HasSureChain tints.now → ⊥) (λ trace. IsFirstTrace tints.now trace) }
 {
-    let counts = Counts::of(tints, SURE);
-    let up = first_run(tints, SURE, &counts.first, &counts.second);
-    let down = first_run(tints, SURE.turned(), &counts.second, &counts.first);
-    let places = earlier(up, down)?;
-    Some(Trace {
-        kind: Kind::General,
-        places,
-    })
+    if let Some(places) = first_chain(tints, SURE) {
+        let kind = Kind::General;
+        return Some(Trace { kind, places });
+    }
+    if let Some(places) = first_chain(tints, SURE_RED) {
+        let kind = Kind::Red;
+        return Some(Trace { kind, places });
+    }
+    None
+}
+
+/// The first chain of two opposing changes, of which either may come first.
+fn first_chain(tints: &[Tint], opposing: Opposing) -> Option<[u16; FRAMES]>
+    requires { length tints.now ≤ 241 }
+    ensures { FirstOf (IsChainOf (Makes opposing.first) (Makes opposing.second) tints.now) result }
+{
+    let counts = Counts::of(tints, opposing);
+    let up = first_run(tints, opposing, &counts.first, &counts.second);
+    let down = first_run(tints, opposing.turned(), &counts.second, &counts.first);
+    earlier(up, down)
 }
 
 /// The first run of nine places in which the first of two opposing changes comes first.

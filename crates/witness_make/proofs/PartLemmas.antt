@@ -18,6 +18,7 @@ use Rattle.cell_tints.proofs.ListLemmas.{slice_get-back, slice_get-front}
 use Rattle.witness_make.specs.Clip.{IsCutTo}
 use Rattle.witness_make.specs.Turns.{AreOfBytes, AreTintsFrom, TellsTrace}
 use Rattle.witness_make.proofs.SameLemmas.{flagged-seen}
+use Rattle.witness_make.proofs.TurnLemmas.{has-sure}
 use Rattle.witness_make.specs.Made.{AreCutsOf, AreSurelyFlagged, ArePartsBefore, HasNoPart, IsPartOf}
 
 pub parts-none : (scene : Scene) (setup : Setup) (edges : Edges) (start : ℕ) (x y : ℤ) → ArePartsBefore scene setup edges start x y 0 []
@@ -115,7 +116,8 @@ pub part-told : (scene : Scene) (setup : Setup) (edges : Edges) (start number : 
 part-told scene setup edges start number x y rect tints trace part valid cuts known cut whole are first x_is y_is width_is height_is tells bytes =
     let told : Rect = record { x = part.x; y = part.y; width = part.width; height = part.height } in
     let same : rect ≡ told = λ i. record { x = sym x_is i; y = sym y_is i; width = sym width_is i; height = sym height_is i } in record {
-      flagged = flagged-seen scene setup edges start number tints valid cuts known whole are (trace.places, first.chain);
+      flagged = flagged-seen scene setup edges start number tints valid cuts known whole are
+          (has-sure trace.kind tints trace.places first.chain);
       cut = subst (λ (r : Rect). IsCutTo x y (cell_of edges.xs edges.ys number) r) same cut;
       tells = record { tints = tints; whole = whole; own_tints = are; trace = trace; first = first; tells = tells };
       bytes = bytes;

@@ -6,7 +6,7 @@ use Rattle.page_model.specs.declared.colour.Tint.{Tint}
 use Rattle.page_model.specs.declared.scene.Scene.{Scene}
 use Rattle.page_model.specs.declared.setup.Setup.{Setup}
 use Rattle.page_model.specs.Cells.{cells_between}
-use Rattle.page_model.specs.Change.{IsSureFall, IsSureRise}
+use Rattle.page_model.specs.Change.{IsSureFall, IsSureRise, IsSurelyIntoRed, IsSurelyOutOfRed}
 use Rattle.page_model.specs.Enclosure.{LooseRun, own}
 use Rattle.page_model.specs.Flash.{Between}
 use Rattle.page_model.specs.Time.{window_of}
@@ -17,13 +17,11 @@ use Rattle.flash_count.specs.Chains.{HasSureChain}
 use Rattle.flash_count.proofs.SeenLemmas.{IsSeen, has_chain-seen}
 use Rattle.flash_laws.specs.FlagLaws.{CarriesOver}
 use Rattle.flash_laws.proofs.ChainLemmas.{has_chain-carried}
-use Rattle.frame_state.specs.Scenes.{is_coloured}
 use Rattle.frame_state.specs.States.{AreOwn}
 use Rattle.region_split.specs.Cutting.{Edges, IsCut, IsInside, cell_of}
 use Rattle.wide_laws.proofs.LooseLemmas.{loose_run-met}
 use Rattle.cell_tints.specs.Tints.{IsOwnTint}
 use Rattle.cell_flags.proofs.FlagLemmas.{corner-inside, own-alike}
-use Rattle.grey_laws.proofs.RedLemmas.{never-surely_red}
 use Rattle.witness_make.specs.Made.{AreCutsOf, AreSurelyFlagged}
 use Rattle.witness_make.specs.Turns.{AreTintsFrom, no_tint}
 
@@ -63,20 +61,25 @@ pub flagged-seen : (scene : Scene) (setup : Setup) (edges : Edges) (start i : �
     → AreTintsFrom scene setup start (cell_of edges.xs edges.ys i).x (cell_of edges.xs edges.ys i).y tints
     → HasSureChain tints → AreSurelyFlagged scene setup start (cell_of edges.xs edges.ys i)
 flagged-seen scene setup edges start i tints valid cuts known whole are has run column row is inside =
-    inl ((has_chain-seen IsSureRise IsSureFall (λ frame. tints_of scene run frame column row) start (window_of setup) tints
-    (seen-tints scene setup edges start i column row tints run valid cuts known whole are is inside)).0 has)
+    let seen : ℕ → Tint = λ frame. tints_of scene run frame column row in
+    let tints_are = seen-tints scene setup edges start i column row tints run valid cuts known whole are is inside in
+    elim has [
+      | inl general ↦ inl ((has_chain-seen IsSureRise IsSureFall seen start (window_of setup) tints tints_are).0 general)
+      | inr red ↦ inr ((has_chain-seen IsSurelyIntoRed IsSurelyOutOfRed seen start (window_of setup) tints tints_are).0 red)
+    ]
 
-pub unflagged-seen : (scene : Scene) (setup : Setup) (edges : Edges) (start i column row : ℕ) (tints : List Tint) → IsValid scene → is_coloured scene ≡ false
+pub unflagged-seen : (scene : Scene) (setup : Setup) (edges : Edges) (start i column row : ℕ) (tints : List Tint) → IsValid scene
     → AreCutsOf scene setup start edges → i < cells_between edges.xs edges.ys → length tints ≡ window_of setup + 1
     → AreTintsFrom scene setup start (cell_of edges.xs edges.ys i).x (cell_of edges.xs edges.ys i).y tints
     → (HasSureChain tints → ⊥) → AreSurelyFlagged scene setup start (cell_of edges.xs edges.ys i)
     → IsInside (cell_of edges.xs edges.ys i) column row → ⊥
-unflagged-seen scene setup edges start i column row tints valid grey cuts known whole are none flagged inside =
+unflagged-seen scene setup edges start i column row tints valid cuts known whole are none flagged inside =
     loose_run-met own scene setup start (λ run is.
+    let seen : ℕ → Tint = λ frame. tints_of scene run frame column row in
+    let tints_are = seen-tints scene setup edges start i column row tints run valid cuts known whole are is inside in
     elim (flagged run column row is inside) [
-      | inl general ↦ none ((has_chain-seen IsSureRise IsSureFall (λ frame. tints_of scene run frame column row) start (window_of setup) tints
-          (seen-tints scene setup edges start i column row tints run valid cuts known whole are is inside)).1 general)
-      | inr red ↦ never-surely_red scene setup start run column row valid grey is red
+      | inl general ↦ none (inl ((has_chain-seen IsSureRise IsSureFall seen start (window_of setup) tints tints_are).1 general))
+      | inr red ↦ none (inr ((has_chain-seen IsSurelyIntoRed IsSurelyOutOfRed seen start (window_of setup) tints tints_are).1 red))
     ])
 
 -- one pixel of a cell flashes where another does

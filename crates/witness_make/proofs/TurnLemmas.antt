@@ -1,5 +1,5 @@
 -- The turns of a trace rise, lie in the window and change in turn.
-use Rattle.std.proofs.Common.{◌≡◌, ◌∙◌, ℕ, suc, ◌+◌, ◌*◌, ◌<◌, ◌≤◌, List, [], ◌∷◌, length, get_or, ap, arith, inl, inr, set, subst, sym, get_or-set_same, get_or-set_other, mul-le-mul_right}
+use Rattle.std.proofs.Common.{◌≡◌, ◌∙◌, ℕ, suc, ◌+◌, ◌-◌, ◌*◌, ◌<◌, ◌≤◌, List, [], ◌∷◌, length, get_or, ap, arith, inl, inr, set, subst, sym, get_or-set_same, get_or-set_other, mul-le-mul_right}
 use Rattle.std.specs.Prelude.{All}
 use Rattle.std.specs.List.Sorted.{IsStrictlyIncreasing}
 use Rattle.std.proofs.lemmas.Bool.{cases_eq}
@@ -9,14 +9,15 @@ use Rattle.page_model.specs.declared.colour.Tint.{Tint}
 use Rattle.page_model.specs.declared.scene.Scene.{Scene}
 use Rattle.page_model.specs.declared.setup.Setup.{Setup}
 use Rattle.page_model.specs.declared.witness.Kind.{Kind}
+use Rattle.page_model.specs.declared.witness.Kind.TheVariants.{General, Red}
 use Rattle.page_model.specs.declared.witness.Part.{Part}
-use Rattle.page_model.specs.Change.{IsSureFall, IsSureRise}
-use Rattle.page_model.specs.Flash.{Alternates}
+use Rattle.page_model.specs.Change.{IsSureFall, IsSureRise, IsSurelyIntoRed, IsSurelyOutOfRed}
+use Rattle.page_model.specs.Flash.{Alternates, AlternatesEitherWay}
 use Rattle.page_model.specs.WitnessConditions.{AlternatesSurely}
 use Rattle.region_split.specs.Cutting.{Edges, cell_of}
 use Rattle.cell_tints.specs.Tints.{AreTintsOfCells, IsOwnTint, cells_of}
 use Rattle.flash_count.specs.declared.tracing.Trace.{Trace}
-use Rattle.flash_count.specs.Chains.{IsChangeAt, IsFirstTrace}
+use Rattle.flash_count.specs.Chains.{HasSureChain, IsChangeAt, IsFirstTrace, IsSureChainOf}
 use Rattle.witness_make.specs.Turns.{ArePicked, AreTintsFrom, AreTurnsBefore, TellsTrace, no_tint}
 
 changes-told : (Changes : Tint → Tint → Type 0) (tints : List Tint) (a b : ℕ) (first second : Tint) → first ≡ get_or tints a no_tint
@@ -38,27 +39,57 @@ alternates-told One Other tints (a ∷ (b ∷ places)) (t ∷ (u ∷ rest)) long
   alternates-told Other One tints (b ∷ places) (u ∷ rest) (omega (arith, long)) (λ k below. same (suc k) (omega arith)) turns.1,
 )
 
+-- the tints of a chain of a kind change in turn by that kind
+either-told : (Up Down : Tint → Tint → Type 0) (tints : List Tint) (places : List ℕ) (told : List Tint) → length told ≡ length places
+    → ((k : ℕ) → k < length places → get_or told k no_tint ≡ get_or tints (get_or places k 0) no_tint)
+    → AlternatesEitherWay (IsChangeAt Up tints) (IsChangeAt Down tints) places → AlternatesEitherWay Up Down told
+either-told Up Down tints places told long same (inl up) = inl (alternates-told Up Down tints places told long same up)
+either-told Up Down tints places told long same (inr down) = inr (alternates-told Down Up tints places told long same down)
+
+alternates-kind : (kind : Kind) (tints : List Tint) (places : List ℕ) (told : List Tint) → length told ≡ length places
+    → ((k : ℕ) → k < length places → get_or told k no_tint ≡ get_or tints (get_or places k 0) no_tint) → IsSureChainOf kind tints places
+    → AlternatesSurely kind told
+alternates-kind General tints places told long same chain = either-told IsSureRise IsSureFall tints places told long same chain.alternates
+alternates-kind Red tints places told long same chain =
+    either-told IsSurelyIntoRed IsSurelyOutOfRed tints places told long same chain.alternates
+
+-- nine places in rising order, each of them one of the tints
+pub record AreNinePlaces (tints : List Tint) (places : List ℕ) : Type 0 where
+  pub nine : length places ≡ 9
+  pub rising : IsStrictlyIncreasing places
+  pub within : All (λ k. (0 ≤ k) × (k ≤ 0 + (length tints - 1))) places
+
+-- those of a chain are, of whichever kind it is
+places-of : (kind : Kind) (tints : List Tint) (places : List ℕ) → IsSureChainOf kind tints places → AreNinePlaces tints places
+places-of General tints places chain = record { nine = chain.nine; rising = chain.rising; within = chain.within }
+places-of Red tints places chain = record { nine = chain.nine; rising = chain.rising; within = chain.within }
+
+-- and there is a chain
+pub has-sure : (kind : Kind) (tints : List Tint) (places : List ℕ) → IsSureChainOf kind tints places → HasSureChain tints
+has-sure General tints places chain = inl (places, chain)
+has-sure Red tints places chain = inr (places, chain)
+
 -- a place of a trace is one of the tints
 pub place-within : (tints : List Tint) (trace : Trace) (turn : ℕ) → 0 < length tints → IsFirstTrace tints trace → turn < 9 → get_or trace.places turn 0 < length tints
 place-within tints trace turn some first below =
-    let nine = first.chain.nine in
-    let inside = first.chain.within turn 0 (omega arith) in
+    let nine = (places-of trace.kind tints trace.places first.chain).nine in
+    let inside = (places-of trace.kind tints trace.places first.chain).within turn 0 (omega arith) in
     omega (arith, inside.1)
 
 pub places-within : (tints : List Tint) (trace : Trace) → 0 < length tints → IsFirstTrace tints trace
     → All (λ place. place < length tints) trace.places
 places-within tints trace some first k d below =
-    let inside = first.chain.within k d below in
+    let inside = (places-of trace.kind tints trace.places first.chain).within k d below in
     omega (arith, some, inside.1)
 
 pub frames-rise : (start : ℕ) (tints : List Tint) (trace : Trace) (part : Part) → IsFirstTrace tints trace → TellsTrace start tints trace part
     → IsStrictlyIncreasing part.frames
 frames-rise start tints trace part first tells k below =
     let nine = tells.nine_frames in
-    let long = first.chain.nine in
+    let long = (places-of trace.kind tints trace.places first.chain).nine in
     let here = tells.turns.frames_are k (omega arith) in
     let next = tells.turns.frames_are (k + 1) (omega arith) in
-    let rise = first.chain.rising k (omega arith) in
+    let rise = (places-of trace.kind tints trace.places first.chain).rising k (omega arith) in
     omega (arith, here, next, rise)
 
 pub frames-within : (start window : ℕ) (tints : List Tint) (trace : Trace) (part : Part) → length tints ≡ window + 1 → IsFirstTrace tints trace
@@ -73,14 +104,11 @@ frames-within start window tints trace part whole first tells k d below =
 pub tints-change : (start : ℕ) (tints : List Tint) (trace : Trace) (part : Part) → IsFirstTrace tints trace → TellsTrace start tints trace part
     → AlternatesSurely part.kind part.tints
 tints-change start tints trace part first tells =
-    let long : length part.tints ≡ length trace.places = tells.nine_tints ∙ sym first.chain.nine in
+    let long : length part.tints ≡ length trace.places = tells.nine_tints ∙ sym (places-of trace.kind tints trace.places first.chain).nine in
     let same : (k : ℕ) → k < length trace.places → get_or part.tints k no_tint ≡ get_or tints (get_or trace.places k 0) no_tint =
-    λ k below. tells.turns.tints_are k (let nine = first.chain.nine in omega arith) in
-    subst (λ (kind : Kind). AlternatesSurely kind part.tints) (sym (tells.kind ∙ first.general))
-    (elim first.chain.alternates [
-      | inl up ↦ inl (alternates-told IsSureRise IsSureFall tints trace.places part.tints long same up)
-      | inr down ↦ inr (alternates-told IsSureFall IsSureRise tints trace.places part.tints long same down)
-    ])
+    λ k below. tells.turns.tints_are k (let nine = (places-of trace.kind tints trace.places first.chain).nine in omega arith) in
+    subst (λ (kind : Kind). AlternatesSurely kind part.tints) (sym tells.kind)
+    (alternates-kind trace.kind tints trace.places part.tints long same first.chain)
 
 -- the tint of a cell in a frame stands among those of all cells
 pub place-known : (cells frames k number : ℕ) → k < frames → number < cells → k * cells + number < cells * frames

@@ -1,12 +1,12 @@
 // The witness of a bad window.
-ghost use Rattle.std.specs.Prelude.{◌≡◌, false, ◌+◌, ◌*◌, ◌^◌, ◌<◌, ◌≤◌, IfOk, OnOk, sum_by};
+ghost use Rattle.std.specs.Prelude.{◌≡◌, ◌+◌, ◌*◌, ◌^◌, ◌<◌, ◌≤◌, IfOk, OnOk, sum_by};
 ghost use Rattle.page_model.specs.declared.witness.Part.{Part};
 ghost use Rattle.page_model.specs.Cells.{cells_between};
 ghost use Rattle.page_model.specs.Enclosure.{own};
 ghost use Rattle.page_model.specs.Time.{window_of};
 ghost use Rattle.page_model.specs.ValidScene.{IsValid};
 ghost use Rattle.page_model.specs.Window.{IsSurelyBad};
-ghost use Rattle.frame_state.specs.Scenes.{CanBePainted, is_coloured};
+ghost use Rattle.frame_state.specs.Scenes.{CanBePainted};
 ghost use Rattle.cell_tints.specs.Tints.{AreTintsOfCells};
 ghost use Rattle.witness_make.specs.Made.{AreCutsOf, AreParts, ArePartsBefore, IsMade};
 
@@ -27,7 +27,6 @@ fn add_part(
     number: u32,
 ) -> Result<(), NoMemory>
     requires valid { IsValid scene.now }
-    requires grey { is_coloured scene.now ≡ false }
     requires cut { AreCutsOf scene.now setup.now bad.start cuts.now }
     requires known { number < cells_between cuts.now.xs cuts.now.ys }
     requires seen { AreTintsOfCells scene.now setup.now cuts.now bad.start (window_of setup.now + 1) tints.now }
@@ -53,7 +52,6 @@ fn parts_by(
     bad: BadWindow,
 ) -> Result<Vec<Part>, NoMemory>
     requires valid { IsValid scene.now }
-    requires grey { is_coloured scene.now ≡ false }
     requires cut { AreCutsOf scene.now setup.now bad.start cuts.now }
     requires seen { AreTintsOfCells scene.now setup.now cuts.now bad.start (window_of setup.now + 1) tints.now }
     ensures { IfOk result (λ parts. AreParts scene.now setup.now cuts.now bad.start bad.x bad.y parts.items) }
@@ -75,7 +73,6 @@ fn parts_of(
 ) -> Result<Vec<Part>, NoMemory>
     requires valid { IsValid scene.now }
     requires painted { CanBePainted scene.now }
-    requires grey { is_coloured scene.now ≡ false }
     requires cut { AreCutsOf scene.now setup.now bad.start cuts.now }
     ensures { IfOk result (λ parts. AreParts scene.now setup.now cuts.now bad.start bad.x bad.y parts.items) }
 {
@@ -112,7 +109,6 @@ pub fn make(
 ) -> Result<Witness, NoMemory>
     requires valid { IsValid scene.now }
     requires painted { CanBePainted scene.now }
-    requires grey { is_coloured scene.now ≡ false }
     requires cut { AreCutsOf scene.now setup.now bad.start cuts.now }
     requires bad { IsSurelyBad own scene.now setup.now bad.start bad.x bad.y }
     ensures { IfOk result (λ w. IsMade scene.now setup.now cuts.now bad.start bad.x bad.y w) }

@@ -1,9 +1,8 @@
 // The part of one cell.
-ghost use Rattle.std.specs.Prelude.{◌≡◌, false, ◌+◌, ◌<◌};
+ghost use Rattle.std.specs.Prelude.{◌+◌, ◌<◌};
 ghost use Rattle.page_model.specs.Cells.{cells_between};
 ghost use Rattle.page_model.specs.Time.{window_of};
 ghost use Rattle.page_model.specs.ValidScene.{IsValid};
-ghost use Rattle.frame_state.specs.Scenes.{is_coloured};
 ghost use Rattle.region_split.specs.Cutting.{cell_of};
 ghost use Rattle.cell_tints.specs.Tints.{AreTintsOfCells};
 ghost use Rattle.witness_make.specs.Made.{AreCutsOf, IsPartIn};
@@ -28,7 +27,6 @@ pub(crate) fn part_of(
     number: u32,
 ) -> Option<Part>
     requires valid { IsValid scene.now }
-    requires grey { is_coloured scene.now ≡ false }
     requires cut { AreCutsOf scene.now setup.now bad.start cuts.now }
     requires known { number < cells_between cuts.now.xs cuts.now.ys }
     requires seen { AreTintsOfCells scene.now setup.now cuts.now bad.start (window_of setup.now + 1) tints.now }

@@ -2,8 +2,8 @@
 use Rattle.std.proofs.Common.{ℕ, ◌∙◌, ◌-◌, ◌<◌, [], ◌∷◌, ◌++◌, arith, get_or}
 use Rattle.std.specs.Prelude.{true, false}
 use Rattle.page_model.specs.declared.colour.Tint.{Tint}
-use Rattle.flash_count.specs.declared.changes.Change.TheVariants.{PossibleRise, PossibleFall, SureRise, SureFall}
-use Rattle.flash_count.proofs.RowLemmas.{last-is, words-tell}
+use Rattle.flash_count.specs.declared.changes.Change.TheVariants.{PossibleRise, PossibleFall, SureRise, SureFall, PossiblyIntoRed, PossiblyOutOfRed, SurelyIntoRed, SurelyOutOfRed}
+use Rattle.flash_count.proofs.RowLemmas.{ChangeWords, last-is, words-tell}
 use Rattle.flash_count.proofs.StillLemmas.{StaysAt, first-kept, word-kept}
 use Rattle.flash_count.proofs.still.words_kept.Goals as goal
 
@@ -21,18 +21,35 @@ returns c tints count stands =
       never = c.requires.still.never;
     } in
     let at = c.last_place-place.ensures.value in
-    words-tell rate turn (tints ++ tint ∷ []) tint c.first_word.result c.later_word.result c.later_word-2.result c.later_word-3.result
-    c.later_word-4.result (record {
+    let words : ChangeWords = record {
+      rise = c.later_word.result;
+      fall = c.later_word-2.result;
+      sure_rise = c.later_word-3.result;
+      sure_fall = c.later_word-4.result;
+      into = c.later_word-5.result;
+      out = c.later_word-6.result;
+      sure_into = c.later_word-7.result;
+      sure_out = c.later_word-8.result;
+    } in
+    words-tell rate turn (tints ++ tint ∷ []) tint c.first_word.result words (record {
       last = last-is tints tint turn count;
       holds = c.first_word.ensures.tint;
-      rises = word-kept rate (turn - 1) turn c.last_place-place.result c.args.row.now tints tint PossibleRise c.later_word.result at tells stays
+      rises = word-kept rate (turn - 1) turn c.last_place-place.result c.args.row.now tints tint PossibleRise words.rise at tells stays
           c.later_word.ensures;
-      falls = word-kept rate (turn - 1) turn c.last_place-place.result c.args.row.now tints tint PossibleFall c.later_word-2.result at tells stays
+      falls = word-kept rate (turn - 1) turn c.last_place-place.result c.args.row.now tints tint PossibleFall words.fall at tells stays
           c.later_word-2.ensures;
-      sure_rises = word-kept rate (turn - 1) turn c.last_place-place.result c.args.row.now tints tint SureRise c.later_word-3.result at tells stays
+      sure_rises = word-kept rate (turn - 1) turn c.last_place-place.result c.args.row.now tints tint SureRise words.sure_rise at tells stays
           c.later_word-3.ensures;
-      sure_falls = word-kept rate (turn - 1) turn c.last_place-place.result c.args.row.now tints tint SureFall c.later_word-4.result at tells stays
+      sure_falls = word-kept rate (turn - 1) turn c.last_place-place.result c.args.row.now tints tint SureFall words.sure_fall at tells stays
           c.later_word-4.ensures;
+      goes_in = word-kept rate (turn - 1) turn c.last_place-place.result c.args.row.now tints tint PossiblyIntoRed words.into at tells stays
+          c.later_word-5.ensures;
+      goes_out = word-kept rate (turn - 1) turn c.last_place-place.result c.args.row.now tints tint PossiblyOutOfRed words.out at tells stays
+          c.later_word-6.ensures;
+      surely_in = word-kept rate (turn - 1) turn c.last_place-place.result c.args.row.now tints tint SurelyIntoRed words.sure_into at tells stays
+          c.later_word-7.ensures;
+      surely_out = word-kept rate (turn - 1) turn c.last_place-place.result c.args.row.now tints tint SurelyOutOfRed words.sure_out at tells stays
+          c.later_word-8.ensures;
       possible = first-kept rate (turn - 1) turn c.last_place-place.result 6 (get_or c.bytes_of-bytes.result 6 0) _ c.args.row.now false tints
           tint at tells.possible stays (c.bytes_of-bytes.ensures 6) (c.first_word.ensures.possible ∙ c.later.ensures);
       sure = first-kept rate (turn - 1) turn c.last_place-place.result 7 (get_or c.bytes_of-bytes.result 7 0) _ c.args.row.now true tints

@@ -33,7 +33,7 @@ returns-in_default-chain c =
     let are = picked-own c.args.scene.now c.args.setup.now c.args.cuts.now c.args.bad.start (window_of c.args.setup.now + 1) c.cells.result c.args.number
     c.args.tints.now c.see.new.tints c.requires.seen c.cells.ensures c.requires.known whole c.see.ensures.picked in
     λ column row flagged inside is.
-    unflagged-seen c.args.scene.now c.args.setup.now c.args.cuts.now c.args.bad.start c.args.number column row c.see.new.tints c.requires.valid c.requires.grey
+    unflagged-seen c.args.scene.now c.args.setup.now c.args.cuts.now c.args.bad.start c.args.number column row c.see.new.tints c.requires.valid
     c.requires.cut c.requires.known whole are c.in_default-chain.ensures flagged inside
 
 pub told-requires-clause-places : goal.told-requires-clause-places
