@@ -6,7 +6,7 @@ use Rattle.page_model.specs.declared.scene.Scene.{Scene}
 use Rattle.page_model.specs.Enclosure.{IsLooseStateAt, Kind, LooseState}
 use Rattle.page_model.specs.Horizon.{IsNeeded, all_animations}
 use Rattle.page_model.specs.LayerAt.{State, IsStateAt}
-use Rattle.page_model.specs.Time.{window_of}
+use Rattle.page_model.specs.Time.{HasFrames, window_of}
 use Rattle.period_frames.specs.Needed.{IsAsBad}
 
 -- a window has the exact states of another one, frame by frame, and no others
