@@ -16,8 +16,6 @@ mod layers;
 mod parts;
 mod scenes;
 mod slots;
-#[cfg(test)]
-mod tests;
 mod types;
 mod way;
 mod ways;

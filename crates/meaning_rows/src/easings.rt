@@ -1,6 +1,6 @@
-// Eased values by value, against an outside reckoning.
-use super::types::Eased;
-use super::*;
+// Eased values, against an outside reckoning.
+use easing_bounds::eased;
+use easing_bounds::types::Eased;
 use fix_span::Frac;
 use page_model::Easing;
 use page_model::Jump::{Both, End, Neither, Start};
