@@ -1,4 +1,3 @@
-pub mod ExampleLemmas
 pub mod FirstLemmas
 pub mod JudgementLemmas
 mod KeptLemmas

@@ -1,4 +1,3 @@
-pub mod ExamplePage
 pub mod Faults
 pub mod Judgement
 pub mod Kept

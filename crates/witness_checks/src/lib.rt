@@ -19,8 +19,6 @@ mod kept;
 mod laws;
 mod overlap;
 mod place;
-#[cfg(test)]
-mod tests;
 mod tints;
 
 pub use accepting::accepts;
