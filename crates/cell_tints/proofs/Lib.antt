@@ -1,3 +1,2 @@
-mod ExampleLemmas
 pub mod ListLemmas
 pub mod TintLemmas

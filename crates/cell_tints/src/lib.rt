@@ -9,8 +9,6 @@
 //! as its first one does, is not said here; nor is when a change of tint is a flash.
 #![tactic(auto)]
 
-#[cfg(test)]
-mod tests;
 mod tints;
 
 pub use tints::tints_of_cells;

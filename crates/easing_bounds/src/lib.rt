@@ -10,8 +10,6 @@
 
 mod easings;
 mod steps;
-#[cfg(test)]
-mod tests;
 pub mod types;
 
 pub use easings::eased;

@@ -1,17 +1,13 @@
 -- What kinds of animations a scene has, and so whether its frames can be painted: the project's own. A set of keyframes is in use
 -- where an animation of a layer has its number.
-use Rattle.std.specs.Prelude.{Bool, true, false, not, Option, None, Some, ◌==◌, ◌&&◌, ◌||◌, List, slice_get, nat_lt, IsTrue}
+use Rattle.std.specs.Prelude.{Bool, true, false, not, Option, None, Some, ◌&&◌, ◌||◌, List, slice_get, nat_lt, IsTrue}
 use Rattle.std.specs.List.{list_any}
 use Rattle.page_model.specs.declared.animation.Anim.{Anim}
 use Rattle.page_model.specs.declared.animation.Count.{Count}
 use Rattle.page_model.specs.declared.animation.Count.TheVariants.{Times, Infinite}
-use Rattle.page_model.specs.declared.colour.Rgba.{Rgba}
 use Rattle.page_model.specs.declared.keyframe.Keyframe.{Keyframe}
 use Rattle.page_model.specs.declared.keyframe.KeyframeSet.{KeyframeSet}
 use Rattle.page_model.specs.declared.property.Prop.TheVariants.{Left, Top, Width, Height}
-use Rattle.page_model.specs.declared.property.Setting.{Setting}
-use Rattle.page_model.specs.declared.property.Value.{Value}
-use Rattle.page_model.specs.declared.property.Value.TheVariants as value
 use Rattle.page_model.specs.declared.scene.Layer.{Layer}
 use Rattle.page_model.specs.declared.scene.Scene.{Scene}
 use Rattle.page_model.specs.Keyframes.{names}
@@ -64,28 +60,6 @@ never_ends anim = not anim.paused && (is_infinite anim.count && nat_lt 0 anim.du
 
 abbrev pub is_endless : Scene → Bool
 is_endless scene = some_animation never_ends scene
-
--- a colour's channels aren't all equal
-abbrev pub is_tinted : Rgba → Bool
-is_tinted c = not (c.r == c.g && c.g == c.b)
-
-abbrev pub is_tinted_value : Value → Bool
-is_tinted_value (value.Colour c) = is_tinted c
-is_tinted_value (value.Opacity thousandths) = false
-is_tinted_value (value.Shown visible) = false
-is_tinted_value (value.Length hundredths) = false
-
-abbrev pub is_tinted_frame : Keyframe → Bool
-is_tinted_frame frame = list_any (λ (setting : Setting). is_tinted_value setting.value) frame.values
-
-abbrev pub is_tinted_set : KeyframeSet → Bool
-is_tinted_set set = list_any is_tinted_frame set.frames
-
--- the scene is animated, and a layer or a set in use has such a colour
-abbrev pub is_coloured : Scene → Bool
-is_coloured scene =
-    is_animated scene
-    && (list_any (λ (layer : Layer). passes is_tinted layer.colour) scene.layers || some_animation (set_passes is_tinted_set scene.sets) scene)
 
 -- the frames of a scene can be painted: no easing in use is a curve, and no box moves or grows
 unfoldable pub can_be_painted : Scene → Bool

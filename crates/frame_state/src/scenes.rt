@@ -6,9 +6,7 @@ ghost use Rattle.frame_state.specs.Questions.{answer_of};
 ghost use Rattle.frame_state.specs.Scenes as definition;
 
 use keyframe_sets::names;
-use page_model::{
-    Anim, Count, Easing, Keyframe, KeyframeSet, Layer, Prop, Rgba, Scene, Setting, Value,
-};
+use page_model::{Anim, Count, Easing, Keyframe, KeyframeSet, Layer, Prop, Scene};
 
 // What is asked of an animation.
 #[derive(Clone, Copy)]
@@ -17,7 +15,6 @@ enum Question {
     RunsCurved,
     Moves,
     NeverEnds,
-    HasTint,
 }
 
 fn is_curve(easing: Easing) -> bool
@@ -53,39 +50,6 @@ fn names_place(set: &KeyframeSet) -> bool
         || names(set, Prop::Height)
 }
 
-fn is_tinted(c: Rgba) -> bool
-    ensures { result ≡ definition.is_tinted c }
-{
-    !(c.r == c.g && c.g == c.b)
-}
-
-fn is_tinted_value(value: Value) -> bool
-    ensures { result ≡ definition.is_tinted_value value }
-{
-    match value {
-        Value::Colour(c) => is_tinted(c),
-        _ => false,
-    }
-}
-
-fn some_value_tinted(values: &[Setting]) -> bool
-    ensures { result ≡ list_any (λ setting. definition.is_tinted_value setting.value) values.now }
-{
-    values.iter().any(|setting| is_tinted_value(setting.value))
-}
-
-fn is_tinted_frame(frame: &Keyframe) -> bool
-    ensures { result ≡ definition.is_tinted_frame frame.now }
-{
-    some_value_tinted(frame.values.as_slice())
-}
-
-fn some_frame_tinted(frames: &[Keyframe]) -> bool
-    ensures { result ≡ list_any definition.is_tinted_frame frames.now }
-{
-    frames.iter().any(|frame| is_tinted_frame(frame))
-}
-
 fn never_ends(anim: &Anim) -> bool
     ensures { result ≡ definition.never_ends anim.now }
 {
@@ -114,15 +78,6 @@ fn set_moves(sets: &[KeyframeSet], anim: &Anim) -> bool
     }
 }
 
-fn set_has_tint(sets: &[KeyframeSet], anim: &Anim) -> bool
-    ensures { result ≡ definition.set_passes definition.is_tinted_set sets.now anim.now }
-{
-    match sets.get(anim.set as usize) {
-        Some(set) => some_frame_tinted(set.frames.as_slice()),
-        None => false,
-    }
-}
-
 fn answer(question: Question, sets: &[KeyframeSet], anim: &Anim) -> bool
     ensures { result ≡ answer_of question sets.now anim.now }
 {
@@ -131,7 +86,6 @@ fn answer(question: Question, sets: &[KeyframeSet], anim: &Anim) -> bool
         Question::RunsCurved => is_curve(anim.easing) || set_runs_curved(sets, anim),
         Question::Moves => set_moves(sets, anim),
         Question::NeverEnds => never_ends(anim),
-        Question::HasTint => set_has_tint(sets, anim),
     }
 }
 
@@ -162,21 +116,6 @@ fn some_animation(question: Question, scene: &Scene) -> bool
     some_in_layers(question, scene.sets.as_slice(), scene.layers.as_slice())
 }
 
-fn has_tint(layer: &Layer) -> bool
-    ensures { result ≡ definition.passes definition.is_tinted layer.now.colour }
-{
-    match layer.colour {
-        Some(c) => is_tinted(c),
-        None => false,
-    }
-}
-
-fn some_tinted(layers: &[Layer]) -> bool
-    ensures { result ≡ list_any (λ layer. definition.passes definition.is_tinted layer.colour) layers.now }
-{
-    layers.iter().any(|layer| has_tint(layer))
-}
-
 /// Whether a layer has an animation.
 pub fn is_animated(scene: &Scene) -> bool
     ensures { result ≡ definition.is_animated scene.now }
@@ -203,15 +142,6 @@ pub fn is_endless(scene: &Scene) -> bool
     ensures { result ≡ definition.is_endless scene.now }
 {
     some_animation(Question::NeverEnds, scene)
-}
-
-/// Whether the scene is animated, and a layer or a keyframe of a set in use has a colour whose three channels
-/// aren't equal.
-pub fn is_coloured(scene: &Scene) -> bool
-    ensures { result ≡ definition.is_coloured scene.now }
-{
-    is_animated(scene)
-        && (some_tinted(scene.layers.as_slice()) || some_animation(Question::HasTint, scene))
 }
 
 /// Whether the frames of the scene can be painted, which [`layer_at`](crate::layer_at) and all that stands on

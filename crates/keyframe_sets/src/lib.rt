@@ -15,8 +15,6 @@ mod declaration;
 mod intervals;
 mod share;
 mod stops;
-#[cfg(test)]
-mod tests;
 pub mod types;
 
 pub use declaration::declared;

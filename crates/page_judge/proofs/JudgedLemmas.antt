@@ -1,13 +1,12 @@
 -- What the verdict of a sweep says of its scene.
-use Rattle.std.proofs.Common.{◌≡◌, ℕ, ℤ, refl, subst, sym}
-use Rattle.std.specs.Prelude.{Bool, true, false, not, IsTrue}
-use Rattle.std.proofs.lemmas.Bool.{and_parts}
+use Rattle.std.proofs.Common.{◌≡◌, ℕ, ℤ, subst, sym}
+use Rattle.std.specs.Prelude.{IsTrue}
 use Rattle.page_model.specs.declared.scene.Scene.{Scene}
 use Rattle.page_model.specs.declared.witness.Witness.{Witness}
 use Rattle.page_model.specs.Enclosure.{LooseRun, own}
 use Rattle.page_model.specs.TintOf.{IsLooseRunIn, tints_of}
 use Rattle.page_model.specs.Window.{IsSurelyBad, IsSurelyFlagged}
-use Rattle.frame_state.specs.Scenes.{CanBePainted, can_be_painted, is_coloured}
+use Rattle.frame_state.specs.Scenes.{CanBePainted}
 use Rattle.witness_laws.proofs.WitnessLemmas.{accepted_is_bad}
 use Rattle.witness_make.specs.Made.{IsMade}
 use Rattle.sweep.specs.declared.types.Reason.{Reason}
@@ -18,16 +17,9 @@ use Rattle.sweep.specs.Marks.{CountsFlagged}
 use Rattle.sweep.specs.Verdicts.{IsFirstBad, IsReady, IsSureMost, Judged}
 use Rattle.page_judge.specs.Judgement.{IsFail, IsJudgement, IsWithinBounds, can_be_judged, judgement_for}
 
--- what can be judged can be painted, and is grey
+-- what can be judged can be painted
 pub painted-of : (scene : Scene) → IsTrue (can_be_judged scene) → CanBePainted scene
-painted-of scene is = (and_parts (can_be_painted scene) _ is).0
-
-grey-if : (coloured : Bool) → IsTrue (not coloured) → coloured ≡ false
-grey-if true is = absurd (cc)
-grey-if false is = refl
-
-pub grey-of : (scene : Scene) → IsTrue (can_be_judged scene) → is_coloured scene ≡ false
-grey-of scene is = grey-if (is_coloured scene) (and_parts (can_be_painted scene) _ is).1
+painted-of scene is = is
 
 -- what a sweep opens with
 pub bounds-of : (judged : Judged) → IsReady judged → IsTrue (can_be_judged judged.scene)

@@ -1,6 +1,6 @@
 pub mod CellLemmas
-pub mod ExampleLemmas
 pub mod JudgedLemmas
 pub mod OneLemmas
 pub mod PlaceLemmas
+pub mod ReadyLemmas
 pub mod StableLemmas

@@ -1,5 +1,5 @@
 -- What a scene comes to at a setup: whether it can be judged yet, and what the judge says, with a witness where it is bad.
-use Rattle.std.specs.Prelude.{ℕ, ℤ, Bool, false, not, ◌≡◌, ◌≤◌, ◌&&◌, IsTrue}
+use Rattle.std.specs.Prelude.{ℕ, ℤ, Bool, false, ◌≡◌, ◌≤◌, IsTrue}
 use Rattle.page_model.specs.declared.scene.Scene.{Scene}
 use Rattle.page_model.specs.declared.setup.Setup.{Setup}
 use Rattle.page_model.specs.declared.witness.Witness.{Witness}
@@ -8,7 +8,7 @@ use Rattle.page_model.specs.Enclosure.{LooseRun, own}
 use Rattle.page_model.specs.Horizon.{IsNeeded, all_animations, frames_for}
 use Rattle.page_model.specs.TintOf.{IsLooseRunIn, tints_of}
 use Rattle.page_model.specs.Window.{IsPossiblyBad, IsSurelyBad, IsSurelyFlagged}
-use Rattle.frame_state.specs.Scenes.{can_be_painted, is_coloured}
+use Rattle.frame_state.specs.Scenes.{can_be_painted}
 use Rattle.period_frames.specs.Needed.{NeedsMore}
 use Rattle.region_split.specs.Cutting.{Edges, IsCut}
 use Rattle.sweep.specs.declared.types.Reason.{Reason}
@@ -20,9 +20,9 @@ use Rattle.witness_text.specs.WitnessForm.{IsInForm}
 use Rattle.page_judge.specs.declared.types.Judgement.{Judgement}
 use Rattle.page_judge.specs.declared.types.Judgement.TheVariants.{NotYet, Pass, Fail, Frames, Work, Enclosure}
 
--- a scene can be judged: its frames can be painted, and its colours are greys
+-- a scene can be judged: its frames can be painted
 abbrev pub can_be_judged : Scene → Bool
-can_be_judged scene = can_be_painted scene && not (is_coloured scene)
+can_be_judged scene = can_be_painted scene
 
 -- so many windows have to be looked at, and neither they nor the cells in their frames are too many
 pub record IsWithinBounds (scene : Scene) (setup : Setup) (needed : ℕ) : Type 0 where

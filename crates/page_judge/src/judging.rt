@@ -7,20 +7,17 @@ ghost use Rattle.sweep.specs.Verdicts as verdict;
 ghost use Rattle.sweep.specs.Verdicts.{IsReady};
 
 use crate::types::Judgement;
-use frame_state::{can_be_painted, is_coloured};
+use frame_state::can_be_painted;
 use page_model::{BadWindow, NoMemory, Scene, Setup, Witness};
 use std::alloc::Global;
 use sweep::{OpenFault, Reason, Sweep, Verdict};
 use witness_make::make;
 
-/// Whether a scene can be judged yet: its frames can be painted, and its colours are greys.
+/// Whether a scene can be judged yet: its frames can be painted.
 pub fn can_be_judged(scene: &Scene) -> bool
     ensures { result ≡ definition.can_be_judged scene.now }
 {
-    if !can_be_painted(scene) {
-        return false;
-    }
-    !is_coloured(scene)
+    can_be_painted(scene)
 }
 
 /// The witness of the window in which a sweep failed its scene.

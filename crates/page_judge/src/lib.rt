@@ -10,8 +10,6 @@
 #![tactic(auto)]
 
 mod judging;
-#[cfg(test)]
-mod tests;
 mod types;
 
 pub use judging::{can_be_judged, judge, one_judgement};

@@ -1,4 +1,3 @@
 mod ExactLemmas
-mod ExampleLemmas
 mod ReadyLemmas
 mod SpanLemmas

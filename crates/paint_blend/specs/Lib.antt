@@ -1,2 +1,1 @@
-pub mod ExamplePage
 pub mod Paint

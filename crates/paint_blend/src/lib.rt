@@ -15,7 +15,5 @@ mod blending;
 mod covering;
 mod painting;
 mod span;
-#[cfg(test)]
-mod tests;
 
 pub use painting::{tint, tint_of};

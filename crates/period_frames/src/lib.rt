@@ -17,8 +17,6 @@ mod multiples;
 mod periods;
 mod repeats;
 mod settling;
-#[cfg(test)]
-mod tests;
 mod windows;
 
 pub use frames::{Horizon, needed};

@@ -1,5 +1,4 @@
 pub mod AlikeLemmas
-pub mod BareLemmas
 pub mod CoverLemmas
 pub mod CutLemmas
 pub mod CuttingLemmas

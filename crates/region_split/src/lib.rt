@@ -15,8 +15,6 @@ mod cuts;
 mod listing;
 mod marks;
 mod sides;
-#[cfg(test)]
-mod tests;
 mod types;
 
 pub use cuts::Cuts;

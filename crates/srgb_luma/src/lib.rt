@@ -16,8 +16,6 @@
 mod change;
 mod linear;
 mod luminance;
-#[cfg(test)]
-mod tests;
 mod tints;
 
 pub use change::{is_fall, is_rise};

@@ -1,5 +1,4 @@
 pub mod AreaLemmas
 pub mod CalmLemmas
-pub mod ExampleLemmas
 pub mod SideLemmas
 pub mod VerdictLemmas

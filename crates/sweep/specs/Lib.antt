@@ -1,4 +1,3 @@
-pub mod ExamplePage
 pub mod Marks
 pub mod Told
 pub mod Verdicts

@@ -9,7 +9,7 @@ use Rattle.page_model.specs.Horizon.{IsNeeded, all_animations, frames_for}
 use Rattle.page_model.specs.TintOf.{IsLooseRunIn, tints_of}
 use Rattle.page_model.specs.ValidScene.{IsValid}
 use Rattle.page_model.specs.Window.{IsPossiblyBad, IsPossiblyFlagged, IsSurelyBad, IsSurelyFlagged}
-use Rattle.frame_state.specs.Scenes.{CanBePainted, is_coloured}
+use Rattle.frame_state.specs.Scenes.{CanBePainted}
 use Rattle.period_frames.specs.Needed.{AreEnough, NeedsMore}
 pub use Rattle.period_frames.specs.Needed.{NoneEver, NoneIn}
 use Rattle.region_split.specs.Cutting.{Edges, IsCut, IsWork}
@@ -71,7 +71,6 @@ pub record Judged : Type 0 where
 pub record IsReady (judged : Judged) : Type 0 where
   pub valid : IsValid judged.scene
   pub painted : CanBePainted judged.scene
-  pub grey : is_coloured judged.scene ≡ false
   pub is_needed : IsNeeded judged.setup (all_animations judged.scene) judged.needed
   pub few : judged.needed ≤ 100000
   pub for_ever : AreEnough judged.scene judged.setup judged.needed

@@ -10,8 +10,6 @@
 #![tactic(auto)]
 
 mod sweep;
-#[cfg(test)]
-mod tests;
 mod types;
 mod windows;
 

@@ -1,7 +1,7 @@
 // A scene that is judged at a setup.
-ghost use Rattle.std.specs.Prelude.{◌≡◌, false, IfOk};
+ghost use Rattle.std.specs.Prelude.{◌≡◌, IfOk};
 ghost use Rattle.page_model.specs.ValidScene.{IsValid};
-ghost use Rattle.frame_state.specs.Scenes.{CanBePainted, is_coloured};
+ghost use Rattle.frame_state.specs.Scenes.{CanBePainted};
 ghost use Rattle.sweep.specs.Verdicts.{IsOpening, IsReady, IsVerdict};
 
 use crate::types::{OpenFault, Verdict};
@@ -31,7 +31,7 @@ impl Model for Sweep {
 }
 
 impl Sweep {
-    /// Takes a scene to be judged. Its frames can be painted, and it is not coloured.
+    /// Takes a scene to be judged. Its frames can be painted.
     ///
     /// # Errors
     ///
@@ -40,7 +40,6 @@ impl Sweep {
     pub fn open(alloc: Global, scene: Scene, setup: Setup) -> Result<Sweep, OpenFault>
         requires valid { IsValid scene }
         requires painted { CanBePainted scene }
-        requires grey { is_coloured scene ≡ false }
         ensures { IsOpening scene setup result }
     {
         let Some(horizon) = needed(&scene, &setup) else {

@@ -14,8 +14,6 @@
 mod best;
 mod columns;
 mod strip;
-#[cfg(test)]
-mod tests;
 mod window;
 
 pub use best::{Best, greatest};

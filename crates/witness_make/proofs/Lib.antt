@@ -3,6 +3,5 @@ pub mod SameLemmas
 pub mod TurnLemmas
 pub mod PartLemmas
 pub mod CellLemmas
-pub mod ExampleLemmas
 pub mod FormLemmas
 pub mod MadeLemmas

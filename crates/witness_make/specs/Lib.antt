@@ -1,4 +1,3 @@
 pub mod Clip
-pub mod ExamplePage
 pub mod Made
 pub mod Turns

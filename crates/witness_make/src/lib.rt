@@ -13,8 +13,6 @@
 mod clip;
 mod making;
 mod part;
-#[cfg(test)]
-mod tests;
 mod turns;
 
 pub use making::make;

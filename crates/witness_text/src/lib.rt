@@ -25,10 +25,6 @@ mod laws;
 mod look;
 mod part;
 mod reading;
-#[cfg(test)]
-mod reading_tests;
-#[cfg(test)]
-mod tests;
 mod text;
 mod tint;
 

@@ -1,62 +1,80 @@
 // The edge: words, pages that are refused, and sources and sinks that fail.
-use crate::running::{ROOM, page_of, run_on, run_over, source_of};
+use crate::running::{CHECK, Page, ROOM, Row, is_told, run_over, source_of};
 use flash_top::Status;
+use io_edge::MemorySource;
+use sample_pages::page_of;
+use std::alloc::Global;
 use std::test::Fail;
 
-const CHECK: &str = "check p 1024x768 60";
+/// Words that are no command, and a page that isn't there or has no byte.
+pub const EDGE: [Row; 7] = [
+    Row {
+        shows: "no_column",
+        page: Page::Whole(b""),
+        words: "check p 0x768 60",
+        status: Status::Words,
+        text: "words: not understood\n",
+    },
+    Row {
+        shows: "leading_zero",
+        page: Page::Whole(b""),
+        words: "check p 1024x768 060",
+        status: Status::Words,
+        text: "words: not understood\n",
+    },
+    Row {
+        shows: "rate_over_the_limit",
+        page: Page::Whole(b""),
+        words: "check p 1024x768 241",
+        status: Status::Words,
+        text: "words: not understood\n",
+    },
+    Row {
+        shows: "other_word",
+        page: Page::Whole(b""),
+        words: "light fff",
+        status: Status::Words,
+        text: "words: not understood\n",
+    },
+    Row {
+        shows: "no_word",
+        page: Page::Whole(b""),
+        words: "",
+        status: Status::Words,
+        text: "words: not understood\n",
+    },
+    Row {
+        shows: "no_byte",
+        page: Page::Whole(b""),
+        words: CHECK,
+        status: Status::Page,
+        text: "page: bad text at 0\n",
+    },
+    Row {
+        shows: "no_file",
+        page: Page::Whole(b""),
+        words: "check q 1024x768 60",
+        status: Status::ReadFault,
+        text: "cannot read\n",
+    },
+];
 
-#[test]
-fn words_that_are_no_command(rt: HostRuntime) -> Result<(), Fail> {
-    let lines = [
-        "check p 0x768 60",
-        "check p 1024x768 060",
-        "check p 1024x768 241",
-        "light fff",
-        "",
-    ];
-    for line in lines.iter() {
-        let told = run_on(rt.alloc(), line, b"")?;
-        assert_eq!(rt; told.status, Status::Words, "{line}");
-        assert_eq!(rt;
-            told.text.as_slice(),
-            b"words: not understood\n".as_slice(),
-            "{line}"
-        );
-    }
-    Ok(())
-}
-
-#[test]
-fn pages_that_are_refused(rt: HostRuntime) -> Result<(), Fail> {
-    let empty = run_on(rt.alloc(), CHECK, b"")?;
-    assert_eq!(rt; empty.status, Status::Page);
-    assert_eq!(rt; empty.text.as_slice(), b"page: bad text at 0\n".as_slice());
-
-    let spaces = vec![in rt.alloc(); b' '; 1_048_577]?;
-    let long = run_on(rt.alloc(), CHECK, spaces.as_slice())?;
-    assert_eq!(rt; long.status, Status::Page);
-    assert_eq!(rt; long.text.as_slice(), b"page: too long\n".as_slice());
-    Ok(())
+/// A source with an empty page.
+fn source_of_page(alloc: Global) -> Result<MemorySource, Fail> {
+    let page = page_of(alloc, "", "")?;
+    source_of(alloc, page.as_bytes())
 }
 
 #[test]
 fn faults_of_source_and_sink(rt: HostRuntime) -> Result<(), Fail> {
-    let page = page_of(rt.alloc(), "", "")?;
-
-    let missing = run_on(rt.alloc(), "check q 1024x768 60", page.as_bytes())?;
-    assert_eq!(rt; missing.status, Status::ReadFault);
-    assert_eq!(rt; missing.text.as_slice(), b"cannot read\n".as_slice());
-
     // The third call is the second read.
-    let mut source = source_of(rt.alloc(), page.as_bytes())?;
+    let mut source = source_of_page(rt.alloc())?;
     source.fail_at(3)?;
     let cut = run_over(rt.alloc(), CHECK, &mut source, ROOM)?;
-    assert_eq!(rt; cut.status, Status::ReadFault);
-    assert_eq!(rt; cut.text.as_slice(), b"cannot read\n".as_slice());
+    assert!(rt; is_told(&cut, Status::ReadFault, b"cannot read\n"));
 
-    let mut source = source_of(rt.alloc(), page.as_bytes())?;
+    let mut source = source_of_page(rt.alloc())?;
     let full = run_over(rt.alloc(), CHECK, &mut source, 5)?;
-    assert_eq!(rt; full.status, Status::WriteFault);
-    assert_eq!(rt; full.text.as_slice(), b"pass:".as_slice());
+    assert!(rt; is_told(&full, Status::WriteFault, b"pass:"));
     Ok(())
 }

@@ -3,15 +3,16 @@
 //!
 //! Nothing stands on this crate, and it has no function but tests. A clause says what a run means; a row
 //! says that what was meant is what was written down, and that memory isn't refused where there is enough
-//! of it. Rows are tables, named by what they show.
+//! of it. Rows are tables, named by what they show; all that are of one page go through one call, so that few
+//! goals have to be proved.
 #![tactic(auto)]
 
-#[cfg(test)]
-mod banner;
 #[cfg(test)]
 mod boxes;
 #[cfg(test)]
 mod edge;
+#[cfg(test)]
+mod fronts;
 #[cfg(test)]
 mod lamps;
 #[cfg(test)]
@@ -24,6 +25,8 @@ mod rate_rows;
 mod running;
 #[cfg(test)]
 mod sheets;
+#[cfg(test)]
+mod tables;
 #[cfg(test)]
 mod tints;
 #[cfg(test)]

@@ -1,78 +1,115 @@
 // The last value that a limit allows, and the first that it doesn't.
-use crate::running::{Told, page_of, run_on};
+use crate::running::{CHECK, Page, Row};
 use flash_top::Status;
-use std::alloc::Global;
-use std::test::Fail;
 
-/// A declaration with the last value that is allowed, one with the first that isn't, and what is told of that one.
-struct Limit {
-    allowed: &'static str,
-    refused: &'static str,
-    text: &'static str,
-}
+/// A page that says nothing of itself, and passes.
+const ALLOWED: Row = Row {
+    shows: "",
+    page: Page::Styled("", ""),
+    words: CHECK,
+    status: Status::Pass,
+    text: "pass: frames 1\n",
+};
 
-const LIMITS: [Limit; 8] = [
-    Limit {
-        allowed: "left:8192px",
-        refused: "left:8192.01px",
+/// A page that is refused.
+const REFUSED: Row = Row {
+    shows: "",
+    page: Page::Styled("", ""),
+    words: CHECK,
+    status: Status::Page,
+    text: "",
+};
+
+pub const LIMITS: [Row; 16] = [
+    Row {
+        shows: "left:8192px",
+        page: Page::Styled(".a{left:8192px}", ""),
+        ..ALLOWED
+    },
+    Row {
+        shows: "left:8192.01px",
+        page: Page::Styled(".a{left:8192.01px}", ""),
         text: "page: over a limit at 42\n",
+        ..REFUSED
     },
-    Limit {
-        allowed: "width:8192px",
-        refused: "width:8192.01px",
+    Row {
+        shows: "width:8192px",
+        page: Page::Styled(".a{width:8192px}", ""),
+        ..ALLOWED
+    },
+    Row {
+        shows: "width:8192.01px",
+        page: Page::Styled(".a{width:8192.01px}", ""),
         text: "page: over a limit at 43\n",
+        ..REFUSED
     },
-    Limit {
-        allowed: "animation-duration:100s",
-        refused: "animation-duration:100.001s",
+    Row {
+        shows: "animation-duration:100s",
+        page: Page::Styled(".a{animation-duration:100s}", ""),
+        ..ALLOWED
+    },
+    Row {
+        shows: "animation-duration:100.001s",
+        page: Page::Styled(".a{animation-duration:100.001s}", ""),
         text: "page: over a limit at 56\n",
+        ..REFUSED
     },
-    Limit {
-        allowed: "animation-delay:-100s",
-        refused: "animation-delay:-100.001s",
+    Row {
+        shows: "animation-delay:-100s",
+        page: Page::Styled(".a{animation-delay:-100s}", ""),
+        ..ALLOWED
+    },
+    Row {
+        shows: "animation-delay:-100.001s",
+        page: Page::Styled(".a{animation-delay:-100.001s}", ""),
         text: "page: over a limit at 53\n",
+        ..REFUSED
     },
-    Limit {
-        allowed: "animation-iteration-count:10000",
-        refused: "animation-iteration-count:10000.001",
+    Row {
+        shows: "animation-iteration-count:10000",
+        page: Page::Styled(".a{animation-iteration-count:10000}", ""),
+        ..ALLOWED
+    },
+    Row {
+        shows: "animation-iteration-count:10000.001",
+        page: Page::Styled(".a{animation-iteration-count:10000.001}", ""),
         text: "page: over a limit at 63\n",
+        ..REFUSED
     },
-    Limit {
-        allowed: "animation-timing-function:steps(1000)",
-        refused: "animation-timing-function:steps(1001)",
+    Row {
+        shows: "animation-timing-function:steps(1000)",
+        page: Page::Styled(".a{animation-timing-function:steps(1000)}", ""),
+        ..ALLOWED
+    },
+    Row {
+        shows: "animation-timing-function:steps(1001)",
+        page: Page::Styled(".a{animation-timing-function:steps(1001)}", ""),
         text: "page: over a limit at 63\n",
+        ..REFUSED
     },
-    Limit {
-        allowed: "animation-timing-function:cubic-bezier(0,4,1,-4)",
-        refused: "animation-timing-function:cubic-bezier(0,4.001,1,-4)",
+    Row {
+        shows: "animation-timing-function:cubic-bezier(0,4,1,-4)",
+        page: Page::Styled(".a{animation-timing-function:cubic-bezier(0,4,1,-4)}", ""),
+        ..ALLOWED
+    },
+    Row {
+        shows: "animation-timing-function:cubic-bezier(0,4.001,1,-4)",
+        page: Page::Styled(
+            ".a{animation-timing-function:cubic-bezier(0,4.001,1,-4)}",
+            "",
+        ),
         text: "page: over a limit at 63\n",
+        ..REFUSED
     },
-    Limit {
-        allowed: "z-index:1000000",
-        refused: "z-index:1000001",
+    Row {
+        shows: "z-index:1000000",
+        page: Page::Styled(".a{z-index:1000000}", ""),
+        ..ALLOWED
+    },
+    Row {
+        shows: "z-index:1000001",
+        page: Page::Styled(".a{z-index:1000001}", ""),
         text: "page: over a limit at 45\n",
+        ..REFUSED
     },
 ];
-
-/// What `check` tells of a page whose style text is one rule with this declaration.
-fn told_of(alloc: Global, declaration: &str) -> Result<Told, Fail> {
-    let style = format!(in alloc; ".a{{{declaration}}}")?;
-    let page = page_of(alloc, style.as_str(), "")?;
-    run_on(alloc, "check p 1024x768 60", page.as_bytes())
-}
-
-#[test]
-fn last_allowed_and_first_refused(rt: HostRuntime) -> Result<(), Fail> {
-    for limit in LIMITS.iter() {
-        let allowed = told_of(rt.alloc(), limit.allowed)?;
-        assert_eq!(rt; allowed.status, Status::Pass, "{}", limit.allowed);
-        let refused = told_of(rt.alloc(), limit.refused)?;
-        assert_eq!(rt;
-            refused.text.as_slice(),
-            limit.text.as_bytes(),
-            "{}",
-            limit.refused
-        );
-    }
-    Ok(())
-}

@@ -1,11 +1,36 @@
-// A run over files and a text in memory.
+// A run over files and a text in memory, and rows of runs.
 use flash_top::{Status, run};
 use io_edge::{MemorySink, MemorySource};
+use sample_pages::{lamp, page_of};
 use std::alloc::Global;
 use std::test::Fail;
 
 /// The room of a sink for whole texts, in bytes.
 pub const ROOM: u32 = 4096;
+
+/// Most rows are of this command.
+pub const CHECK: &str = "check p 1024x768 60";
+
+/// A page by its bytes, by its style text and its boxes, or as a lamp: two colours, and what its animation does; one of
+/// so many boxes, and so many spaces.
+#[derive(Clone, Copy)]
+pub enum Page {
+    Whole(&'static [u8]),
+    Styled(&'static str, &'static str),
+    Lamp(&'static str, &'static str, &'static str),
+    Boxes(usize),
+    Spaces(usize),
+}
+
+/// A page, the words of a run on it, and the status and the text that it must have.
+#[derive(Clone, Copy)]
+pub struct Row {
+    pub shows: &'static str,
+    pub page: Page,
+    pub words: &'static str,
+    pub status: Status,
+    pub text: &'static str,
+}
 
 /// How a run went: its status, and what was written.
 #[derive(Drop)]
@@ -15,7 +40,7 @@ pub struct Told {
 }
 
 /// The words of a line, which are parted by single spaces.
-pub fn words_of(alloc: Global, line: &str) -> Result<Vec<String>, Fail> {
+fn words_of(alloc: Global, line: &str) -> Result<Vec<String>, Fail> {
     let mut words = Vec::new(alloc);
     for word in line.split_whitespace() {
         words.push(String::from_str(alloc, word)?)?;
@@ -57,18 +82,37 @@ pub fn run_on_both(alloc: Global, line: &str, page: &[u8], witness: &[u8]) -> Re
     run_over(alloc, line, &mut source, ROOM)
 }
 
-/// A lamp's page: two colours, and what its animation does.
-pub fn lamp(alloc: Global, first: &str, second: &str, animation: &str) -> Result<String, Fail> {
-    let page = format!(in alloc;
-        "<!DOCTYPE html><html><head><style>body{{background-color:{first};animation:f {animation}}}@keyframes f{{0%{{background-color:{first}}}50%{{background-color:{second}}}}}</style></head><body></body></html>"
-    )?;
-    Ok(page)
+/// The bytes of a page.
+pub fn bytes_of(alloc: Global, page: Page) -> Result<Vec<u8>, Fail> {
+    let text = match page {
+        Page::Whole(bytes) => return Ok(bytes.to_vec(alloc)?),
+        Page::Spaces(count) => return Ok(vec![in alloc; b' '; count]?),
+        Page::Styled(style, boxes) => page_of(alloc, style, boxes)?,
+        Page::Lamp(first, second, animation) => {
+            let style = lamp(alloc, first, second, animation)?;
+            page_of(alloc, style.as_str(), "")?
+        }
+        Page::Boxes(count) => {
+            let boxes = "<div></div>".repeat(alloc, count)?;
+            page_of(alloc, "", boxes.as_str())?
+        }
+    };
+    Ok(text.into_bytes())
 }
 
-/// A page by its style text and its boxes.
-pub fn page_of(alloc: Global, style: &str, boxes: &str) -> Result<String, Fail> {
-    let page = format!(in alloc;
-        "<!DOCTYPE html><html><head><style>{style}</style></head><body>{boxes}</body></html>"
-    )?;
-    Ok(page)
+/// Whether a run was told with this status and this text.
+pub fn is_told(told: &Told, status: Status, text: &[u8]) -> bool {
+    told.status == status && told.text.as_slice() == text
+}
+
+/// What the first row shows that isn't told as it must be.
+pub fn first_wrong(alloc: Global, rows: &[Row]) -> Result<Option<&'static str>, Fail> {
+    for row in rows {
+        let page = bytes_of(alloc, row.page)?;
+        let told = run_on(alloc, row.words, page.as_slice())?;
+        if !is_told(&told, row.status, row.text.as_bytes()) {
+            return Ok(Some(row.shows));
+        }
+    }
+    Ok(None)
 }

@@ -1,16 +1,6 @@
 // The tint of a pixel in a frame.
-use crate::running::{page_of, run_on};
+use crate::running::{Page, Row};
 use flash_top::Status;
-use std::test::Fail;
-
-/// A page by its style text and its boxes, a command on it, and what is told.
-struct Row {
-    style: &'static str,
-    boxes: &'static str,
-    words: &'static str,
-    status: Status,
-    text: &'static str,
-}
 
 /// A black box with half its opacity, of which half a column is left of the viewport.
 const HALF: &str =
@@ -34,110 +24,96 @@ const FADE: &str =
 
 const ONE_BOX: &str = "<div class=\"b\"></div>";
 
-const ROWS: [Row; 13] = [
+pub const TINTS: [Row; 13] = [
     Row {
-        style: HALF,
-        boxes: ONE_BOX,
+        shows: "half_a_column_is_covered",
+        page: Page::Styled(HALF, ONE_BOX),
         words: "tint p 1024x768 60 0 9 0",
         status: Status::Pass,
         text: "#7f7f7f\n",
     },
     Row {
-        style: HALF,
-        boxes: ONE_BOX,
+        shows: "behind_the_box",
+        page: Page::Styled(HALF, ONE_BOX),
         words: "tint p 1024x768 60 0 10 0",
         status: Status::Pass,
         text: "#ffffff\n",
     },
     Row {
-        style: STEPS,
-        boxes: "",
+        shows: "first_of_three_steps",
+        page: Page::Styled(STEPS, ""),
         words: "tint p 1024x768 60 17 0 0",
         status: Status::Pass,
         text: "#000000\n",
     },
     Row {
-        style: STEPS,
-        boxes: "",
+        shows: "second_of_three_steps",
+        page: Page::Styled(STEPS, ""),
         words: "tint p 1024x768 60 18 0 0",
         status: Status::Pass,
         text: "#808080\n",
     },
     Row {
-        style: STEPS,
-        boxes: "",
+        shows: "third_of_three_steps",
+        page: Page::Styled(STEPS, ""),
         words: "tint p 1024x768 60 36 1023 767",
         status: Status::Pass,
         text: "#ffffff\n",
     },
     Row {
-        style: AT_ONCE,
-        boxes: "",
+        shows: "over_at_once",
+        page: Page::Styled(AT_ONCE, ""),
         words: "tint p 1024x768 60 0 0 0",
         status: Status::Pass,
         text: "#000000\n",
     },
     Row {
-        style: AT_ONCE,
-        boxes: "",
+        shows: "over_at_once_later",
+        page: Page::Styled(AT_ONCE, ""),
         words: "tint p 1024x768 60 7 0 0",
         status: Status::Pass,
         text: "#000000\n",
     },
     Row {
-        style: FADE,
-        boxes: "",
+        shows: "half_way_back_is_near",
+        page: Page::Styled(FADE, ""),
         words: "tint p 1024x768 60 75 0 0",
         status: Status::Pass,
         text: "#bfbfbf\n",
     },
     Row {
-        style: FADE,
-        boxes: "",
+        shows: "half_way_back",
+        page: Page::Styled(FADE, ""),
         words: "tint p 1024x768 60 90 0 0",
         status: Status::Pass,
         text: "#808080\n",
     },
     Row {
-        style: FADE,
-        boxes: "",
+        shows: "half_way_back_for_ever",
+        page: Page::Styled(FADE, ""),
         words: "tint p 1024x768 60 4000000000 0 0",
         status: Status::Pass,
         text: "#808080\n",
     },
     Row {
-        style: MOVING,
-        boxes: ONE_BOX,
+        shows: "moving_boxes_are_not_judged",
+        page: Page::Styled(MOVING, ONE_BOX),
         words: "tint p 1024x768 60 0 10 10",
         status: Status::Page,
         text: "page: not yet\n",
     },
     Row {
-        style: HALF,
-        boxes: ONE_BOX,
+        shows: "column_outside",
+        page: Page::Styled(HALF, ONE_BOX),
         words: "tint p 1024x768 60 0 1024 0",
         status: Status::Words,
         text: "words: not understood\n",
     },
     Row {
-        style: HALF,
-        boxes: ONE_BOX,
+        shows: "frame_outside",
+        page: Page::Styled(HALF, ONE_BOX),
         words: "tint p 1024x768 60 4294967296 9 0",
         status: Status::Words,
         text: "words: not understood\n",
     },
 ];
-
-#[test]
-fn tints_are_told(rt: HostRuntime) -> Result<(), Fail> {
-    for row in ROWS.iter() {
-        let told = run_on(
-            rt.alloc(),
-            row.words,
-            page_of(rt.alloc(), row.style, row.boxes)?.as_bytes(),
-        )?;
-        assert_eq!(rt; told.text.as_slice(), row.text.as_bytes(), "{}", row.words);
-        assert_eq!(rt; told.status, row.status, "{}", row.words);
-    }
-    Ok(())
-}

@@ -1,5 +1,5 @@
 // Witnesses of a lamp that flashes, accepted and refused.
-use crate::running::{lamp, run_on, run_on_both};
+use crate::running::{CHECK, Page, Row as Run, bytes_of, is_told, run_on, run_on_both};
 use flash_top::Status;
 use std::alloc::Global;
 use std::test::Fail;
@@ -129,6 +129,9 @@ const REFUSED: [Row; 12] = [
     },
 ];
 
+/// Bytes that are no witness.
+const NO_WITNESS: [&[u8]; 4] = [b"", b"{}", b"[]", b"{\"area\":87296}"];
+
 /// The text of a row's witness.
 fn witness_of(alloc: Global, row: &Row) -> Result<String, Fail> {
     let part = format!(in alloc;
@@ -148,83 +151,86 @@ fn witness_of(alloc: Global, row: &Row) -> Result<String, Fail> {
 }
 
 /// The lamp that flashes.
-fn flashing(alloc: Global) -> Result<String, Fail> {
-    lamp(alloc, "#000000", "#ffffff", "250ms steps(1) 20")
+const LAMP: Page = Page::Lamp("#000000", "#ffffff", "250ms steps(1) 20");
+
+/// Whether these words tell this where the file `p` is the lamp and the file `w` this witness.
+fn tells(
+    alloc: Global,
+    words: &str,
+    witness: &[u8],
+    status: Status,
+    text: &str,
+) -> Result<bool, Fail> {
+    let page = bytes_of(alloc, LAMP)?;
+    let told = run_on_both(alloc, words, page.as_slice(), witness)?;
+    Ok(is_told(&told, status, text.as_bytes()))
 }
 
 #[test]
 fn told_witness_is_accepted(rt: HostRuntime) -> Result<(), Fail> {
-    let page = flashing(rt.alloc())?;
-    let told = run_on(rt.alloc(), "check p 1024x768 60", page.as_bytes())?;
-    let tested = run_on_both(
+    let page = bytes_of(rt.alloc(), LAMP)?;
+    let told = run_on(rt.alloc(), CHECK, page.as_slice())?;
+    let accepted = tells(
         rt.alloc(),
-        TOLD.words,
-        page.as_bytes(),
+        AT_60,
         told.text.as_slice(),
+        TOLD.status,
+        TOLD.text,
     )?;
-    assert_eq!(rt; tested.text.as_slice(), TOLD.text.as_bytes());
-    assert_eq!(rt; tested.status, TOLD.status);
+    assert!(rt; accepted);
     Ok(())
 }
 
 #[test]
 fn first_condition_that_fails(rt: HostRuntime) -> Result<(), Fail> {
-    let page = flashing(rt.alloc())?;
     for row in REFUSED.iter() {
         let witness = witness_of(rt.alloc(), row)?;
-        let told = run_on_both(rt.alloc(), row.words, page.as_bytes(), witness.as_bytes())?;
-        assert_eq!(rt; told.text.as_slice(), row.text.as_bytes(), "{}", row.shows);
-        assert_eq!(rt; told.status, row.status, "{}", row.shows);
+        let told = tells(
+            rt.alloc(),
+            row.words,
+            witness.as_bytes(),
+            row.status,
+            row.text,
+        )?;
+        assert!(rt; told, "{}", row.shows);
+    }
+    for text in NO_WITNESS.iter() {
+        let told = tells(
+            rt.alloc(),
+            AT_60,
+            text,
+            Status::Bad,
+            "refused: not a witness\n",
+        )?;
+        assert!(rt; told, "not a witness");
     }
     Ok(())
 }
 
-#[test]
-fn bytes_that_are_no_witness(rt: HostRuntime) -> Result<(), Fail> {
-    let page = flashing(rt.alloc())?;
-    for text in ["", "{}", "[]", "{\"area\":87296}"] {
-        let told = run_on_both(rt.alloc(), AT_60, page.as_bytes(), text.as_bytes())?;
-        assert_eq!(rt;
-            told.text.as_slice(),
-            b"refused: not a witness\n".as_slice(),
-            "{text}"
-        );
-        assert_eq!(rt; told.status, Status::Bad, "{text}");
-    }
-    Ok(())
-}
-
-/// A page with a file of a witness that isn't there, and what is told: the witness is opened only where the page is judged.
-struct Missing {
-    page: &'static str,
-    status: Status,
-    text: &'static str,
-}
-
-const MISSING: [Missing; 3] = [
-    Missing {
-        page: "<!DOCTYPE html><html><head></head><body><p></p></body></html>",
+/// Pages with a file of a witness that isn't there: the witness is opened only where the page is judged.
+pub const MISSING: [Run; 3] = [
+    Run {
+        shows: "no_page",
+        page: Page::Whole(b"<!DOCTYPE html><html><head></head><body><p></p></body></html>"),
+        words: AT_60,
         status: Status::Page,
         text: "page: bad text at 40\n",
     },
-    Missing {
-        page: "<!DOCTYPE html><html><head><style>body{background-color:#000000;animation:f 1s infinite}@keyframes f{to{background-color:#ffffff}}</style></head><body></body></html>",
+    Run {
+        shows: "page_that_is_not_judged",
+        page: Page::Styled(
+            "body{background-color:#000000;animation:f 1s infinite}@keyframes f{to{background-color:#ffffff}}",
+            "",
+        ),
+        words: AT_60,
         status: Status::Page,
         text: "page: not yet\n",
     },
-    Missing {
-        page: "<!DOCTYPE html><html><head></head><body></body></html>",
+    Run {
+        shows: "page_that_is_judged",
+        page: Page::Whole(b"<!DOCTYPE html><html><head></head><body></body></html>"),
+        words: AT_60,
         status: Status::ReadFault,
         text: "cannot read\n",
     },
 ];
-
-#[test]
-fn page_is_judged_before_the_witness_is_opened(rt: HostRuntime) -> Result<(), Fail> {
-    for row in MISSING.iter() {
-        let told = run_on(rt.alloc(), AT_60, row.page.as_bytes())?;
-        assert_eq!(rt; told.text.as_slice(), row.text.as_bytes(), "{}", row.page);
-        assert_eq!(rt; told.status, row.status, "{}", row.page);
-    }
-    Ok(())
-}

@@ -2,9 +2,9 @@
 use Rattle.std.proofs.lemmas.Result.{IfOk-weaker}
 use Rattle.page_model.specs.declared.witness.Witness.{Witness}
 use Rattle.witness_make.specs.Made.{IsMade}
-use Rattle.witness_make.proofs.ExampleLemmas.{ready-cuts}
 use Rattle.page_judge.specs.Judgement.{IsFail}
 use Rattle.page_judge.proofs.JudgedLemmas.{fail-of}
+use Rattle.page_judge.proofs.ReadyLemmas.{ready-cuts}
 use Rattle.page_judge.proofs.judging.witness_of.Goals as goal
 
 pub make-requires-clause-cut : goal.make-requires-clause-cut

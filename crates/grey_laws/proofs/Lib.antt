@@ -1,2 +1,0 @@
-pub mod GreyLemmas
-pub mod RedLemmas
