@@ -1,7 +1,6 @@
 -- Changes of tints that lie in other tints: a sure change by the wide kind of the outer ones is a sure change by the own kind of the
 -- inner ones, and a possible change by the own kind of the inner ones is one by the wide kind of the outer ones.
 use Rattle.std.proofs.Common.{◌≡◌, ℕ, ◌≤◌, ◌⊎◌, ◌∙◌, inl, inr, sym, subst, arith}
-use Rattle.std.proofs.lemmas.Bool.{cases_Bool}
 use Rattle.page_model.specs.declared.colour.Rgb.{Rgb}
 use Rattle.page_model.specs.declared.colour.Tint.{Tint}
 use Rattle.page_model.specs.Change.{IsPossibleRise, IsSureRise, IsPossibleFall, IsSureFall, IsSingle, IsCorner, HasSaturated, AreSingleAndFar, AreFarBy, AreFarAndMore, AreFarOrNearly, least_gap, greatest_gap, IsPossiblyRed, IsSurelyRed}
