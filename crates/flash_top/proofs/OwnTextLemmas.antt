@@ -1,5 +1,5 @@
 -- The text of a witness in form reads as it, and is UTF-8.
-use Rattle.std.proofs.Common.{◌≡◌, ℕ, ◌+◌, ◌/◌, ◌%◌, ◌^◌, ◌<◌, ◌≤◌, ℤ, pos, negsuc, ◌≤ℤ◌, List, [], ◌∷◌, ◌++◌, All, Bool, true, false, Some, IsUtf8, codes, map, nat_lt, refl, arith, inl, inr, eq-eqb, ne_eqb, lt-ltb}
+use Rattle.std.proofs.Common.{◌≡◌, ℕ, ◌+◌, ◌/◌, ◌%◌, ◌^◌, ◌<◌, ◌≤◌, ℤ, pos, negsuc, ◌≤ℤ◌, List, [], ◌∷◌, ◌++◌, All, Bool, true, false, Some, IsUtf8, codes, map, nat_lt, refl, arith, inl, inr, lt-ltb}
 use Rattle.std.proofs.lemmas.Bool.Decides.{nat_tests}
 use Rattle.std.proofs.lemmas.Fmt.{IsAscii-decimal, IsAscii-signed}
 use Rattle.std.proofs.lemmas.Int.{ints}
@@ -21,9 +21,9 @@ use Rattle.page_model.specs.declared.witness.Part.{Part}
 use Rattle.page_model.specs.declared.witness.Witness.{Witness}
 use Rattle.witness_text.specs.PartValue.{kind_text, natural, part_value, tint_value}
 use Rattle.witness_text.specs.TintText.{channel_text, colour_text, hex_digit, is_single, tint_text}
-use Rattle.witness_text.specs.WitnessForm.{IsInForm, IsPartInForm, IsTintInForm, word_limit}
+use Rattle.witness_text.specs.WitnessForm.{IsInForm, IsPartInForm, IsTintInForm, IsToldRate, word_limit}
 use Rattle.witness_text.specs.WitnessText.{integer, value_of_first, value_of_second, witness_text, witness_value}
-use Rattle.witness_text.proofs.Shape.{witness_within}
+use Rattle.witness_text.proofs.Shape.{in_each_version, witness_within}
 use Rattle.flash_top.proofs.SoundLemmas.{AreSoundItems, AreSoundMembers, IsSound, IsSoundNumber, sound_read, value_utf8}
 
 -- ---- numbers
@@ -156,21 +156,53 @@ from_rate version w =
     (member (codes "y") (integer w.y)
     no_members))))))
 
-key_and : (key : List ℕ) (d : Data) (rest : Members) → IsUtf8 key → IsSound d → AreSoundMembers rest → AreSoundMembers (member key d rest)
-key_and key d rest first second others = (first, (second, others))
-
 from_rate-sound : (version : ℕ) (w : Witness) → version ≤ 2 → IsInForm w → AreSoundMembers (from_rate version w)
 from_rate-sound version w few form =
     let rate = form.rate in
     let start = form.start in
-    let width = form.width in
-    let y = key_and (codes "y") (integer w.y) no_members (IsUtf8-are_ascii (codes "y") refl) (integer_sound w.y form.y_least form.y_greatest) tt in
-    let x = key_and (codes "x") (integer w.x) _ (IsUtf8-are_ascii (codes "x") refl) (integer_sound w.x form.x_least form.x_greatest) y in
-    let across = key_and (codes "width") (natural w.width) _ (IsUtf8-are_ascii (codes "width") refl) (natural_sound w.width (omega arith)) x in
-    let told = key_and (codes "version") (natural version) _ (IsUtf8-are_ascii (codes "version") refl) (natural_sound version (omega arith)) across in
-    let verdict = key_and (codes "verdict") (string (codes "fail")) _ (IsUtf8-are_ascii (codes "verdict") refl) (IsUtf8-are_ascii (codes "fail") refl) told in
-    let from = key_and (codes "start") (natural w.start) _ (IsUtf8-are_ascii (codes "start") refl) (natural_sound w.start (omega arith)) verdict in
-    key_and (codes "rate") (natural w.rate) _ (IsUtf8-are_ascii (codes "rate") refl) (natural_sound w.rate (omega arith)) from
+    let width = form.width in (
+      IsUtf8-are_ascii (codes "rate") refl,
+      (
+        natural_sound w.rate (omega arith),
+        (
+          IsUtf8-are_ascii (codes "start") refl,
+          (
+            natural_sound w.start (omega arith),
+            (
+              IsUtf8-are_ascii (codes "verdict") refl,
+              (
+                IsUtf8-are_ascii (codes "fail") refl,
+                (
+                  IsUtf8-are_ascii (codes "version") refl,
+                  (
+                    natural_sound version (omega arith),
+                    (
+                      IsUtf8-are_ascii (codes "width") refl,
+                      (
+                        natural_sound w.width (omega arith),
+                        (
+                          IsUtf8-are_ascii (codes "x") refl,
+                          (
+                            integer_sound w.x form.x_least form.x_greatest,
+                            (
+                              IsUtf8-are_ascii (codes "y") refl,
+                              (
+                                integer_sound w.y form.y_least form.y_greatest,
+                                tt,
+                              ),
+                            ),
+                          ),
+                        ),
+                      ),
+                    ),
+                  ),
+                ),
+              ),
+            ),
+          ),
+        ),
+      ),
+    )
 
 -- all members, with some behind the parts
 abbrev with_rest : Witness → Members → Members
@@ -182,32 +214,47 @@ with_rest w rest =
 rest_sound : (w : Witness) (rest : Members) → IsInForm w → AreSoundMembers rest → AreSoundMembers (with_rest w rest)
 rest_sound w rest form others =
     let area = form.area in
-    let height = form.height in
-    let parts = key_and (codes "parts") (array (items_of (map part_value w.parts))) rest (IsUtf8-are_ascii (codes "parts") refl)
-    (list_sound part_value IsPartInForm part_sound w.parts form.parts) others in
-    let down = key_and (codes "height") (natural w.height) _ (IsUtf8-are_ascii (codes "height") refl) (natural_sound w.height (omega arith)) parts in
-    key_and (codes "area") (natural w.area) _ (IsUtf8-are_ascii (codes "area") refl) (natural_sound w.area (omega arith)) down
+    let height = form.height in (
+      IsUtf8-are_ascii (codes "area") refl,
+      (
+        natural_sound w.area (omega arith),
+        (
+          IsUtf8-are_ascii (codes "height") refl,
+          (
+            natural_sound w.height (omega arith),
+            (
+              IsUtf8-are_ascii (codes "parts") refl,
+              (
+                list_sound part_value IsPartInForm part_sound w.parts form.parts,
+                others,
+              ),
+            ),
+          ),
+        ),
+      ),
+    )
 
 first_sound : (w : Witness) → IsInForm w → IsSound (value_of_first w)
 unfolding value_of_first
 first_sound w form = (rest_sound w (from_rate 1 w) form (from_rate-sound 1 w (omega arith) form), refl)
 
-second_sound : (w : Witness) → IsInForm w → w.per ≡ 1001 → IsSound (value_of_second w)
+per-small : (rate per : ℕ) → IsToldRate rate per → per < 2 ^ 64
+per-small rate per (inl first) = let one = first.0 in omega arith
+per-small rate per (inr second) = omega arith
+
+second_sound : (w : Witness) → IsInForm w → IsSound (value_of_second w)
 unfolding value_of_second
-second_sound w form over = (
+second_sound w form = (
   rest_sound w (member (codes "per") (natural w.per) (from_rate 2 w)) form
-      (key_and (codes "per") (natural w.per) (from_rate 2 w) (IsUtf8-are_ascii (codes "per") refl) (natural_sound w.per (omega arith))
-      (from_rate-sound 2 w (omega arith) form)),
+      (
+        IsUtf8-are_ascii (codes "per") refl,
+        (natural_sound w.per (per-small w.rate w.per form.told), from_rate-sound 2 w (omega arith) form),
+      ),
   refl,
 )
 
 witness_sound : (w : Witness) → IsInForm w → IsSound (witness_value w)
-unfolding witness_value
-witness_sound w form =
-    elim form.told [
-      | inl first ↦ rw (eq-eqb w.per 1 first.0) (first_sound w form)
-      | inr second ↦ rw (ne_eqb w.per 1 (omega arith)) (second_sound w form second)
-    ]
+witness_sound w form = in_each_version IsSound w (first_sound w form) (second_sound w form)
 
 pub own_utf8 : (w : Witness) → IsInForm w → IsUtf8 (witness_text w)
 unfolding witness_text
