@@ -72,8 +72,9 @@ pub record IsPlain (easing : Easing) : Type 0 where
   pub straight : IsNoCurve easing
   pub valid : IsEasing easing
 
-pub record IsPlainInterval (interval : Interval) : Type 0 where
-  pub easing : IsPlain interval.easing
+-- an interval by an easing of some sort, at a distance from 0 to 1
+pub record IsSoundInterval (Good : Easing → Type 0) (interval : Interval) : Type 0 where
+  pub easing : Good interval.easing
   pub distance : IsPart interval.distance
 
 -- the eased distance of such an interval has a positive denominator
@@ -83,45 +84,60 @@ eased-positive (Steps count jump) at plain part = (stepped-part count jump at pl
 eased-positive (Cubic x1 y1 x2 y2) at plain part = absurd plain.straight
 
 -- an animation's interval is such
-interval-plain :
-    (sets : List KeyframeSet) (setup : Setup) (frame : ℕ) (prop : Prop) (own : Value) (anim : Anim) (interval : Interval)
-    → All (λ (set : KeyframeSet). All (λ (key : Keyframe). IfSome key.easing IsPlain) set.frames) sets → IsPlain anim.easing
-    → interval_at sets setup frame prop own anim ≡ Some interval → IsPlainInterval interval
-interval-plain sets setup frame prop own anim interval all plain e =
+interval-sound :
+    (Good : Easing → Type 0) (sets : List KeyframeSet) (setup : Setup) (frame : ℕ) (prop : Prop) (own : Value) (anim : Anim) (interval : Interval)
+    → All (λ (set : KeyframeSet). All (λ (key : Keyframe). IfSome key.easing Good) set.frames) sets → Good anim.easing
+    → interval_at sets setup frame prop own anim ≡ Some interval → IsSoundInterval Good interval
+interval-sound Good sets setup frame prop own anim interval all plain e =
     option_and_then_some
     (λ (set : KeyframeSet). option_and_then (interval_of set.frames prop own anim.easing) (progress_of setup anim frame))
     (slice_get sets anim.set) interval e
     (λ set set_is rest. option_and_then_some (interval_of set.frames prop own anim.easing) (progress_of setup anim frame) interval rest
     (λ at at_is here. record {
-      easing = interval-easing IsPlain set.frames prop own anim.easing at interval
-          (All-slice_get (λ (s : KeyframeSet). All (λ (key : Keyframe). IfSome key.easing IsPlain) s.frames) sets anim.set set all set_is) plain here;
+      easing = interval-easing Good set.frames prop own anim.easing at interval
+          (All-slice_get (λ (s : KeyframeSet). All (λ (key : Keyframe). IfSome key.easing Good) s.frames) sets anim.set set all set_is) plain here;
       distance = distance-is_part set.frames prop own anim.easing at interval (progress-part setup anim frame at at_is) here;
     }))
 
 -- so a course is still, or on such an interval
+abbrev pub SoundOn : (Easing → Type 0) → Course → Type 0
+SoundOn Good (still x) = Unit {0}
+SoundOn Good (moving interval) = IsSoundInterval Good interval
+
 abbrev pub IsPlainOn : Course → Type 0
-IsPlainOn (still x) = Unit {0}
-IsPlainOn (moving interval) = IsPlainInterval interval
+IsPlainOn course = SoundOn IsPlain course
 
-plain-if : (test : Bool) (x : Value) (course : Course) → IsPlainOn course → IsPlainOn (if test then still x else course)
-plain-if true x course plain = tt
-plain-if false x course plain = plain
+sound-if : (Good : Easing → Type 0) (test : Bool) (x : Value) (course : Course) → SoundOn Good course → SoundOn Good (if test then still x else course)
+sound-if Good true x course sound = tt
+sound-if Good false x course sound = sound
 
-plain-by : (own : Value) (o : Option Interval) → ((interval : Interval) → o ≡ Some interval → IsPlainInterval interval) → IsPlainOn (course_by own o)
-plain-by own None each = tt
-plain-by own (Some interval) each = each interval refl
+sound-by :
+    (Good : Easing → Type 0) (own : Value) (o : Option Interval) → ((interval : Interval) → o ≡ Some interval → IsSoundInterval Good interval)
+    → SoundOn Good (course_by own o)
+sound-by Good own None each = tt
+sound-by Good own (Some interval) each = each interval refl
 
-course-plain :
-    (scene : Scene) (setup : Setup) (frame : ℕ) (layer : Layer) (prop : Prop)
-    → All (λ (set : KeyframeSet). All (λ (key : Keyframe). IfSome key.easing IsPlain) set.frames) scene.sets
-    → All (λ (anim : Anim). IsPlain anim.easing) layer.anims → IsPlainOn (course_of scene setup frame layer prop)
-course-plain scene setup frame layer prop sets anims =
+course-sound :
+    (Good : Easing → Type 0) (scene : Scene) (setup : Setup) (frame : ℕ) (layer : Layer) (prop : Prop)
+    → All (λ (set : KeyframeSet). All (λ (key : Keyframe). IfSome key.easing Good) set.frames) scene.sets
+    → All (λ (anim : Anim). Good anim.easing) layer.anims → SoundOn Good (course_of scene setup frame layer prop)
+course-sound Good scene setup frame layer prop sets anims =
     let own : Value = declared layer prop in
     let intervals : List Interval = filter_map (interval_at scene.sets setup frame prop own) layer.anims in
-    let all = All-filter_map (interval_at scene.sets setup frame prop own) IsPlainInterval layer.anims
-    (λ k d within interval e. interval-plain scene.sets setup frame prop own (get_or layer.anims k d) interval sets (anims k d within) e) in
-    plain-if (is_held layer.important prop) own (course_by own (last_of intervals))
-    (plain-by own (last_of intervals) (λ interval e. All-slice_get IsPlainInterval intervals (length intervals - 1) interval all e))
+    let all = All-filter_map (interval_at scene.sets setup frame prop own) (IsSoundInterval Good) layer.anims
+    (λ k d within interval e. interval-sound Good scene.sets setup frame prop own (get_or layer.anims k d) interval sets (anims k d within) e) in
+    sound-if Good (is_held layer.important prop) own (course_by own (last_of intervals))
+    (sound-by Good own (last_of intervals) (λ interval e. All-slice_get (IsSoundInterval Good) intervals (length intervals - 1) interval all e))
+
+-- in a valid scene each easing is in its limits
+pub scene-sound :
+    (scene : Scene) (setup : Setup) (frame number : ℕ) (layer : Layer) (prop : Prop) → IsValid scene
+    → slice_get scene.layers number ≡ Some layer → SoundOn IsEasing (course_of scene setup frame layer prop)
+scene-sound scene setup frame number layer prop valid e =
+    let in_use : IsLayer (length scene.sets) layer = All-slice_get (IsLayer (length scene.sets)) scene.layers number layer valid.layers e in
+    course-sound IsEasing scene setup frame layer prop
+    (λ k d within j key inside. ((valid.sets k d within).is_set.frames j key inside).easing)
+    (λ k d within. (in_use.animations k d within).easing)
 
 -- a valid scene without curves has plain easings alone
 plain-some : (o : Option Easing) → IfSome o IsEasing → IfSome o IsNoCurve → IfSome o IsPlain
@@ -134,7 +150,7 @@ pub scene-plain :
 scene-plain scene setup frame number layer prop valid none e =
     let in_use : IsLayer (length scene.sets) layer = All-slice_get (IsLayer (length scene.sets)) scene.layers number layer valid.layers e in
     let straight = All-slice_get (λ (l : Layer). All (λ (anim : Anim). IsNoCurve anim.easing) l.anims) scene.layers number layer none.animations e in
-    course-plain scene setup frame layer prop
+    course-sound IsPlain scene setup frame layer prop
     (λ k d within j key inside. plain-some (get_or (get_or scene.sets k d).frames j key).easing
     ((valid.sets k d within).is_set.frames j key inside).easing (none.keyframes k d within j key inside))
     (λ k d within. record { straight = straight k d within; valid = (in_use.animations k d within).easing })

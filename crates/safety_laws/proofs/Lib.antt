@@ -5,3 +5,4 @@ pub mod CourseLemmas
 pub mod RoundingLemmas
 pub mod SafetyLemmas
 pub mod StillLemmas
+pub mod ValueLemmas

@@ -23,7 +23,7 @@ use Rattle.safety_laws.proofs.SafetyLemmas.{painted-same}
 use Rattle.state_laws.proofs.UniqueLemmas.{state-unique}
 
 -- without animations a property stays at its declared value
-course-still : (scene : Scene) (setup : Setup) (frame : ℕ) (layer : Layer) (prop : Prop) → layer.anims ≡ [] → course_of scene setup frame layer prop ≡ still (declared layer prop)
+pub course-still : (scene : Scene) (setup : Setup) (frame : ℕ) (layer : Layer) (prop : Prop) → layer.anims ≡ [] → course_of scene setup frame layer prop ≡ still (declared layer prop)
 course-still scene setup frame layer prop none =
     let e = ap (λ anims. if is_held layer.important prop then still (declared layer prop) else course_by (declared layer prop)
     (last_of (filter_map (interval_at scene.sets setup frame prop (declared layer prop)) anims))) none in

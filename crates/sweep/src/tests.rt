@@ -1,7 +1,6 @@
 // A blinking page by value, against an outside reckoning.
 ghost use Rattle.std.specs.Prelude.{◌≡◌, false, IfOk};
 ghost use Rattle.page_model.specs.Red.{white};
-ghost use Rattle.page_model.specs.LayerAt.{no_colour};
 ghost use Rattle.page_model.specs.ValidScene.{IsValid};
 ghost use Rattle.frame_state.specs.Scenes.{CanBePainted, is_coloured};
 ghost use Rattle.state_laws.specs.ExamplePage.{body_with, keyed, turns_white};
@@ -10,17 +9,23 @@ ghost use Rattle.sweep.specs.ExamplePage.{blinks};
 use super::*;
 use page_model::{
     Anim, BadWindow, Count, Direction, Easing, Fill, Held, Keyframe, KeyframeSet, Layer, List,
-    Prop, Rgb, Scene, Setting, Setup, Value,
+    Prop, Rgba, Scene, Setting, Setup, Value,
 };
 use std::alloc::Global;
 use std::test::Fail;
 
-const BLACK: Rgb = Rgb { r: 0, g: 0, b: 0 };
+const BLACK: Rgba = Rgba {
+    r: 0,
+    g: 0,
+    b: 0,
+    a: 255_000,
+};
 
-const WHITE: Rgb = Rgb {
+const WHITE: Rgba = Rgba {
     r: 255,
     g: 255,
     b: 255,
+    a: 255_000,
 };
 
 const NOT_HELD: Held = Held {
@@ -61,7 +66,7 @@ fn blinking_body(alloc: Global) -> Result<Layer, Fail>
     })
 }
 
-fn keyframe(alloc: Global, offset: u16, colour: Rgb) -> Result<Keyframe, Fail>
+fn keyframe(alloc: Global, offset: u16, colour: Rgba) -> Result<Keyframe, Fail>
     ensures { IfOk result (λ frame. frame ≡ keyed offset colour) }
 {
     let background = Setting {

@@ -103,7 +103,7 @@ SomeRound-antitone kind slot easing at from to v w below reached =
 same_loose : (a b : Loose) → a.lo ≡ b.lo → a.hi ≡ b.hi → a ≡ b
 same_loose a b lo hi = λ i. record { lo = lo i; hi = hi i }
 
-loose-unique :
+pub loose-unique :
     (kind : Kind) (slot : Slot) (easing : Easing) (at : Fraction) (from to : ℤ) (a b : Loose) → IsLoose kind slot easing at from to a
     → IsLoose kind slot easing at from to b → a ≡ b
 loose-unique kind slot easing at from to a b first second =

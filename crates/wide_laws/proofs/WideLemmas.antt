@@ -130,7 +130,7 @@ exact-exact scene setup frame layer state good = record {
 }
 
 -- products of signed numbers
-times-assoc : (k : ℕ) (a h : ℤ) → (pos k *ℤ a) *ℤ h ≡ pos k *ℤ (a *ℤ h)
+pub times-assoc : (k : ℕ) (a h : ℤ) → (pos k *ℤ a) *ℤ h ≡ pos k *ℤ (a *ℤ h)
 times-assoc k a h =
     let e = ap (λ (n : ℕ). n * up h) (product_is (pos k) a).0 in
     let f = ap (λ (n : ℕ). n * down h) (product_is (pos k) a).0 in
@@ -148,7 +148,7 @@ minus-times u t c =
     let d : up (u -ℤ pos t) + down u + t ≡ down (u -ℤ pos t) + up u = omega (arith, ints) in
     let e = ap (λ (n : ℕ). n * c) d in omega (arith, ints)
 
-abs-times : (k : ℕ) (a : ℤ) → nat_abs (pos k *ℤ a) ≡ k * nat_abs a
+pub abs-times : (k : ℕ) (a : ℤ) → nat_abs (pos k *ℤ a) ≡ k * nat_abs a
 abs-times k (pos n) = refl
 abs-times k (negsuc n) = of_negative (k * suc n)
   where
