@@ -1,0 +1,4 @@
+mod PaintingLemmas
+mod ScaleLemmas
+mod SlotLemmas
+mod StateLemmas

@@ -1,0 +1,6 @@
+-- The law is proved in `proofs/PaintingLemmas`.
+use Rattle.full_alpha_laws.proofs.PaintingLemmas as laws
+use Rattle.full_alpha_laws.proofs.paintings.tints_are_former.Goals as goal
+
+pub returns : goal.returns
+returns c = laws.tints_are_former

@@ -1,0 +1,6 @@
+-- The law is proved in `proofs/StateLemmas`.
+use Rattle.full_alpha_laws.proofs.StateLemmas as laws
+use Rattle.full_alpha_laws.proofs.states.loose_states_are_former.Goals as goal
+
+pub returns : goal.returns
+returns c = laws.loose_states_are_former
