@@ -1,5 +1,5 @@
 -- A full cover leaves an alpha as it is, and the body over white by it is the body's own colour.
-use Rattle.std.proofs.Common.{◌≡◌, ◌∙◌, ℕ, ◌+◌, ◌*◌, ◌/◌, ◌<◌, ◌≤◌, ℤ, pos, negsuc, ◌≤ℤ◌, Bool, true, false, ◌&&◌, List, [], ◌∷◌, All, IsSome, Option, Some, None, fold, get_or, is_some, length, max, min, slice_get, if◌then◌else◌, arith, refl, ap, inl, inr, sym}
+use Rattle.std.proofs.Common.{◌≡◌, ◌∙◌, ℕ, ◌≤◌, ℤ, pos, negsuc, ◌≤ℤ◌, true, ◌&&◌, List, [], ◌∷◌, All, IsSome, Option, Some, None, fold, get_or, is_some, max, min, slice_get, if◌then◌else◌, arith, refl, ap, inl, inr}
 use Rattle.std.proofs.lemmas.Bool.{cases_Bool}
 use Rattle.std.proofs.lemmas.Int.{ints}
 use Rattle.std.proofs.lemmas.List.Elements.{All-contains_itself, All-head, All-tail}
@@ -11,21 +11,19 @@ use Rattle.page_model.specs.declared.property.Prop.TheVariants.{Background}
 use Rattle.page_model.specs.declared.property.Value.{Value}
 use Rattle.page_model.specs.declared.scene.Layer.{Layer}
 use Rattle.page_model.specs.declared.scene.Scene.{Scene}
-use Rattle.page_model.specs.declared.setup.Setup.{Setup}
-use Rattle.page_model.specs.Colour.{IsRunIn, Run, blended, body_colour, combined, covers, ground, over, paint_box, painted}
-use Rattle.page_model.specs.Enclosure.{IsLooseChannelOn, Kind, Loose, LooseRun, LooseState, one_value}
+use Rattle.page_model.specs.Colour.{blended, body_colour, combined, covers, ground, over, paint_box}
+use Rattle.page_model.specs.Enclosure.{IsLooseChannelOn, Kind, Loose, LooseState, one_value}
 use Rattle.page_model.specs.LayerAt.{Course, State, blue_of, course_of, green_of, moving, red_of, still}
 use Rattle.page_model.specs.Progress.{above_zero}
 use Rattle.page_model.specs.Red.{white}
 use Rattle.page_model.specs.Slot.{Shade}
-use Rattle.page_model.specs.TintOf.{IsLooseRunIn, Span, blended_span, both, combined_span, covers_surely, full_alpha, painted_where, single, span_of, tint_box, tint_by, tint_ground, tint_of, tint_over}
+use Rattle.page_model.specs.TintOf.{Span, blended_span, both, combined_span, covers_surely, full_alpha, painted_where, single, span_of, tint_box, tint_by, tint_ground, tint_over}
 use Rattle.page_model.specs.ValidScene.{IsEasing, IsValid}
 use Rattle.curve_laws.proofs.ChannelLemmas.{loose_channels_nest}
 use Rattle.safety_laws.proofs.CourseLemmas.{SoundOn, scene-sound}
 use Rattle.wide_laws.proofs.PaintLemmas.{blend-ends}
-use Rattle.full_alpha_laws.specs.FormerPainting.{former_box, former_colour, former_ground, former_over, former_painted}
-use Rattle.full_alpha_laws.specs.FormerTint.{former_tint_box, former_tint_ground, former_tint_of, former_tint_over}
-use Rattle.full_alpha_laws.specs.FullAlpha.{HasFullAlpha}
+use Rattle.full_alpha_laws.specs.FormerPainting.{former_box, former_colour, former_ground, former_over}
+use Rattle.full_alpha_laws.specs.FormerTint.{former_tint_box, former_tint_ground, former_tint_over}
 use Rattle.full_alpha_laws.specs.PaintingLaws.{ColoursAreFormer, TintsAreFormer}
 use Rattle.full_alpha_laws.specs.StateLaws.{cover_for}
 use Rattle.full_alpha_laws.proofs.StateLemmas.{loose_states_are_former, states_are_former}

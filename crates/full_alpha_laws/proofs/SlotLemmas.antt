@@ -1,19 +1,19 @@
 -- Between opaque colours the test of a level is 255,000 times the former one, and no alpha is gone.
-use Rattle.std.proofs.Common.{◌≡◌, ◌↔◌, ℕ, suc, ◌*◌, ◌^◌, ◌<◌, ℤ, pos, negsuc, neg_ℤ, ◌+ℤ◌, ◌-ℤ◌, ◌*ℤ◌, ◌≤ℤ◌, ◌<ℤ◌, arith, refl, sym, subst}
+use Rattle.std.proofs.Common.{◌≡◌, ◌↔◌, ℕ, suc, ◌-◌, ◌*◌, ◌^◌, ◌<◌, ℤ, pos, negsuc, neg_ℤ, ◌+ℤ◌, ◌-ℤ◌, ◌*ℤ◌, ◌≤ℤ◌, arith, sym, subst}
 use Rattle.std.specs.Int.{int_max, int_min}
-use Rattle.std.proofs.lemmas.Int.{ints, clamps, by_lt_z}
+use Rattle.std.proofs.lemmas.Int.{ints, clamps}
 use Rattle.page_model.specs.declared.easing.Easing.{Easing}
 use Rattle.page_model.specs.declared.easing.Easing.TheVariants.{Linear, Steps, Cubic}
 use Rattle.page_model.specs.declared.easing.Jump.{Jump}
 use Rattle.page_model.specs.declared.easing.Jump.TheVariants.{Start, End, Neither, Both}
 use Rattle.page_model.specs.Curve.{CurveReaches, FractionReaches, Reaches, curve_height, jumps_of, stepped}
-use Rattle.page_model.specs.Enclosure.{AllReach, AllReachInside, IsLoose, IsLooseChannel, Kind, Loose, SomeReach, SomeReachInside, exact, kind_at, one_value, own, own_greatest, own_least, wide}
+use Rattle.page_model.specs.Enclosure.{AllReach, AllReachInside, IsLoose, Kind, Loose, SomeReach, SomeReachInside, exact, kind_at, one_value, own, own_greatest, own_least, wide}
 use Rattle.page_model.specs.Fraction.{Fraction}
-use Rattle.page_model.specs.Slot.{IsChannelValue, IsGreatestIn, IsGreatestLevel, IsSlotValue, RoundsTo, RoundsToLevel, Shade, Slot, cover, due, gain, twice_the_way, twice_to_cover}
+use Rattle.page_model.specs.Slot.{IsGreatestIn, IsGreatestLevel, IsSlotValue, RoundsTo, RoundsToLevel, cover, due, gain, twice_the_way, twice_to_cover}
 use Rattle.page_model.specs.ValidScene.{AreSteps, IsEasing}
 use Rattle.state_laws.proofs.UniqueLemmas.{IsAntitone, RoundsTo-antitone, slot-unique}
 use Rattle.wide_laws.proofs.LooseLemmas.{AllRound-antitone, SomeRound-antitone, all-some, loose-unique}
-use Rattle.full_alpha_laws.specs.FormerSlot.{IsFormerChannel, IsFormerLoose, channel}
+use Rattle.full_alpha_laws.specs.FormerSlot.{channel}
 use Rattle.full_alpha_laws.specs.FullAlpha.{opaque}
 use Rattle.full_alpha_laws.specs.SlotLaws.{ChannelsAreFormer, CoversAreFull, LooseChannelsAreFormer}
 use Rattle.full_alpha_laws.proofs.ScaleLemmas.{IsScaled, all-scaled, reaches-scaled, some-scaled}

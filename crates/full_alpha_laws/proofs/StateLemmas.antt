@@ -1,10 +1,9 @@
 -- The states of layers of opaque colours are those of the former text.
-use Rattle.std.proofs.Common.{◌≡◌, ◌∙◌, ◌↔◌, ℕ, zero, suc, ◌-◌, ◌<◌, ◌≤◌, ℤ, pos, ◌+ℤ◌, ◌-ℤ◌, ◌*ℤ◌, ◌≤ℤ◌, ◌<ℤ◌, true, List, [], ◌∷◌, All, IfSome, IsSome, Option, Some, None, get_or, length, min, slice_get, unwrap_or, arith, refl, ap, sym, subst}
-use Rattle.std.proofs.lemmas.Int.{ints, by_lt_z}
+use Rattle.std.proofs.Common.{◌≡◌, ◌∙◌, ◌↔◌, ℕ, zero, suc, ◌<◌, ℤ, pos, ◌+ℤ◌, ◌-ℤ◌, ◌*ℤ◌, ◌≤ℤ◌, ◌<ℤ◌, true, List, [], ◌∷◌, IfSome, Option, Some, None, get_or, length, min, slice_get, arith, refl, ap, sym, subst}
+use Rattle.std.proofs.lemmas.Int.{ints}
 use Rattle.page_model.specs.declared.animation.Anim.{Anim}
 use Rattle.page_model.specs.declared.colour.Rgba.{Rgba}
 use Rattle.page_model.specs.declared.easing.Easing.TheVariants.{Linear}
-use Rattle.page_model.specs.declared.keyframe.KeyframeSet.{KeyframeSet}
 use Rattle.page_model.specs.declared.property.Prop.{Prop}
 use Rattle.page_model.specs.declared.property.Prop.TheVariants.{Background, Opacity, Visibility, Left, Top, Width, Height}
 use Rattle.page_model.specs.declared.property.Setting.{Setting}
@@ -13,12 +12,12 @@ use Rattle.page_model.specs.declared.property.Value.TheVariants as value
 use Rattle.page_model.specs.declared.scene.Layer.{Layer}
 use Rattle.page_model.specs.declared.scene.Scene.{Scene}
 use Rattle.page_model.specs.declared.setup.Setup.{Setup}
-use Rattle.page_model.specs.Enclosure.{IsLoose, IsLooseChannel, IsLooseChannelOn, IsLooseOn, IsLooseStateAt, Kind, Loose, LooseState, one_value}
+use Rattle.page_model.specs.Enclosure.{IsLoose, IsLooseChannel, IsLooseChannelOn, IsLooseOn, Kind, Loose, one_value}
 use Rattle.page_model.specs.Fraction.{zero_of_one}
 use Rattle.page_model.specs.Keyframes.{Interval, is_same}
-use Rattle.page_model.specs.LayerAt.{Course, still, moving, IsChannelOn, IsStateAt, IsValueOn, State, blue_of, colour_in, course_of, cover_of, declared, green_of, no_colour, red_of}
-use Rattle.page_model.specs.Slot.{IsChannelValue, IsGreatestIn, IsSlotValue, Shade, cover, own_level}
-use Rattle.page_model.specs.ValidScene.{IsEasing, IsLayer, IsSetInUse, IsValid, IsValueOf}
+use Rattle.page_model.specs.LayerAt.{Course, still, moving, IsChannelOn, IsValueOn, blue_of, colour_in, course_of, cover_of, declared, green_of, red_of}
+use Rattle.page_model.specs.Slot.{IsChannelValue, IsSlotValue, Shade, cover}
+use Rattle.page_model.specs.ValidScene.{IsEasing, IsValid, IsValueOf}
 use Rattle.fraction_laws.proofs.ListLemmas.{All-slice_get}
 use Rattle.safety_laws.proofs.CourseLemmas.{IsSoundInterval, SoundOn, scene-sound}
 use Rattle.safety_laws.proofs.StillLemmas.{course-still}
@@ -26,7 +25,6 @@ use Rattle.safety_laws.proofs.ValueLemmas.{AreValues, GoodOn, course-values}
 use Rattle.state_laws.proofs.UniqueLemmas.{slot-unique}
 use Rattle.wide_laws.proofs.LooseLemmas.{loose-unique}
 use Rattle.full_alpha_laws.specs.FormerSlot.{IsFormerChannel, IsFormerChannelOn, IsFormerLoose, IsFormerLooseOn, channel}
-use Rattle.full_alpha_laws.specs.FormerState.{IsFormerLooseAt, IsFormerStateAt}
 use Rattle.full_alpha_laws.specs.FullAlpha.{HasFullAlpha, IsOpaque, IsOpaqueValue, opaque}
 use Rattle.full_alpha_laws.specs.StateLaws.{LooseStatesAreFormer, StatesAreFormer, cover_for}
 use Rattle.full_alpha_laws.proofs.SlotLemmas.{channels_are_former, covers_are_full, loose_channels_are_former}
@@ -77,7 +75,7 @@ course-full :
 course-full scene setup frame number layer valid full there own =
     course-values IsFull scene setup frame layer Background own (λ k d within j key inside n setting at same.
     let s : Setting = get_or (get_or (get_or scene.sets k d).frames j key).values n setting in
-    full-of s.prop s.value ((valid.sets k d within).is_set.frames j key inside).values n setting at) (full.sets k d within j key inside n setting at) same)
+    full-of s.prop s.value (((valid.sets k d within).is_set.frames j key inside).values n setting at) (full.sets k d within j key inside n setting at) same)
 
 own-full : (layer : Layer) (c : Rgba) → layer.colour ≡ Some c → IsOpaque c → IsFull (declared layer Background)
 own-full layer c is opaque = rw is opaque
@@ -175,8 +173,7 @@ layer-cover :
     → slice_get scene.layers number ≡ Some layer → layer.colour ≡ colour
     → IsValueOn cover cover_of (course_of scene setup frame layer Background) v ↔ (v ≡ pos (cover_for colour))
 layer-cover scene setup frame number layer None v valid full there none =
-    rw (course-still scene setup frame layer Background (none-still scene number layer valid there none), none)
-    (
+    rw (course-still scene setup frame layer Background (none-still scene number layer valid there none), none) (
       λ is. slot-unique cover Linear zero_of_one (pos 0) (pos 0) v (pos 0) is cover-none,
       λ e. subst (λ (w : ℤ). IsSlotValue cover Linear zero_of_one (pos 0) (pos 0) w) (sym e) cover-none,
     )
@@ -191,8 +188,7 @@ loose_layer-cover :
     → IsLooseOn kind cover cover_of (course_of scene setup frame layer Background) loose ↔ (loose ≡ one_value (pos (cover_for colour)))
 loose_layer-cover kind scene setup frame number layer None loose valid full there none =
     let own : IsLoose kind cover Linear zero_of_one (pos 0) (pos 0) (one_value (pos 0)) = record { least = cover-none; greatest = cover-none } in
-    rw (course-still scene setup frame layer Background (none-still scene number layer valid there none), none)
-    (
+    rw (course-still scene setup frame layer Background (none-still scene number layer valid there none), none) (
       λ is. loose-unique kind cover Linear zero_of_one (pos 0) (pos 0) loose (one_value (pos 0)) is own,
       λ e. subst (λ (l : Loose). IsLoose kind cover Linear zero_of_one (pos 0) (pos 0) l) (sym e) own,
     )

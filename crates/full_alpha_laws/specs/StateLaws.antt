@@ -5,7 +5,7 @@ use Rattle.page_model.specs.declared.colour.Rgba.{Rgba}
 use Rattle.page_model.specs.declared.scene.Layer.{Layer}
 use Rattle.page_model.specs.declared.scene.Scene.{Scene}
 use Rattle.page_model.specs.declared.setup.Setup.{Setup}
-use Rattle.page_model.specs.Enclosure.{Kind, Loose, LooseState, IsLooseStateAt, one_value}
+use Rattle.page_model.specs.Enclosure.{Kind, LooseState, IsLooseStateAt, one_value}
 use Rattle.page_model.specs.LayerAt.{State, IsStateAt}
 use Rattle.page_model.specs.ValidScene.{IsValid}
 use Rattle.full_alpha_laws.specs.FormerState.{IsFormerLooseAt, IsFormerStateAt}
