@@ -1,6 +1,5 @@
 -- All pixels of a cell have one tint in each frame of a window, and so flash alike.
 use Rattle.std.proofs.Common.{◌≡◌, ◌∙◌, ℕ, ◌+◌, ◌<◌, ◌≤◌, List, length, get_or, Some, ap, arith, inl, inr, subst}
-use Rattle.std.specs.Prelude.{false}
 use Rattle.std.proofs.lemmas.Option.{slice_get-get_or, slice_get_cases}
 use Rattle.page_model.specs.declared.colour.Tint.{Tint}
 use Rattle.page_model.specs.declared.scene.Scene.{Scene}
