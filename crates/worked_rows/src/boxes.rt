@@ -49,7 +49,7 @@ pub const BOXES: [Row; 4] = [
     },
 ];
 
-pub const BODIES: [Row; 5] = [
+pub const BODIES: [Row; 3] = [
     Row {
         shows: "important_beats_animation",
         page: Page::Styled(
@@ -79,25 +79,5 @@ pub const BODIES: [Row; 5] = [
         words: CHECK,
         status: Status::Pass,
         text: "pass: frames 91\n",
-    },
-    Row {
-        shows: "endless_is_not_judged_yet",
-        page: Page::Styled(
-            "body{background-color:#000000;animation:f 1s linear infinite}@keyframes f{to{background-color:#ffffff}}",
-            "",
-        ),
-        words: CHECK,
-        status: Status::Page,
-        text: "page: not yet\n",
-    },
-    Row {
-        shows: "colours_are_not_judged_yet",
-        page: Page::Styled(
-            "body{background-color:#ff0000;animation:f 250ms steps(1) 20}@keyframes f{0%{background-color:#ff0000}50%{background-color:#008000}}",
-            "",
-        ),
-        words: CHECK,
-        status: Status::Page,
-        text: "page: not yet\n",
     },
 ];

@@ -12,6 +12,8 @@ mod boxes;
 #[cfg(test)]
 mod edge;
 #[cfg(test)]
+mod endless;
+#[cfg(test)]
 mod fronts;
 #[cfg(test)]
 mod lamps;
@@ -20,7 +22,9 @@ mod limits;
 #[cfg(test)]
 mod pages;
 #[cfg(test)]
-mod rate_rows;
+mod rates;
+#[cfg(test)]
+mod red;
 #[cfg(test)]
 mod running;
 #[cfg(test)]

@@ -32,6 +32,17 @@ pub struct Row {
     pub text: &'static str,
 }
 
+/// A page and a witness, the words of a run that tests it, and the status and the text that it must have.
+#[derive(Clone, Copy)]
+pub struct Verified {
+    pub shows: &'static str,
+    pub page: Page,
+    pub words: &'static str,
+    pub witness: &'static str,
+    pub status: Status,
+    pub text: &'static str,
+}
+
 /// How a run went: its status, and what was written.
 #[derive(Drop)]
 pub struct Told {
@@ -110,6 +121,18 @@ pub fn first_wrong(alloc: Global, rows: &[Row]) -> Result<Option<&'static str>, 
     for row in rows {
         let page = bytes_of(alloc, row.page)?;
         let told = run_on(alloc, row.words, page.as_slice())?;
+        if !is_told(&told, row.status, row.text.as_bytes()) {
+            return Ok(Some(row.shows));
+        }
+    }
+    Ok(None)
+}
+
+/// What the first row of a witness shows that isn't told as it must be.
+pub fn first_untrue(alloc: Global, rows: &[Verified]) -> Result<Option<&'static str>, Fail> {
+    for row in rows {
+        let page = bytes_of(alloc, row.page)?;
+        let told = run_on_both(alloc, row.words, page.as_slice(), row.witness.as_bytes())?;
         if !is_told(&told, row.status, row.text.as_bytes()) {
             return Ok(Some(row.shows));
         }

@@ -1,10 +1,13 @@
 // The tables of runs on one page.
 use crate::boxes::{BODIES, BOXES};
 use crate::edge::EDGE;
+use crate::endless::{ENDLESS, LATE};
 use crate::lamps::LAMPS;
 use crate::limits::LIMITS;
 use crate::pages::PAGES;
-use crate::running::{Row, first_wrong};
+use crate::rates::{NO_RATES, RATE_WITNESSES, RATES};
+use crate::red::{RED_WITNESSES, REDS};
+use crate::running::{Row, Verified, first_untrue, first_wrong};
 use crate::sheets::{SHEETS, STILL};
 use crate::tints::TINTS;
 use crate::witnesses::MISSING;
@@ -23,8 +26,20 @@ fn rows_are_told(rt: HostRuntime) -> Result<(), Fail> {
         &LIMITS,
         &MISSING,
         &EDGE,
+        &ENDLESS,
+        &RATES,
+        &NO_RATES,
+        &REDS,
     ] {
         assert_eq!(rt; first_wrong(rt.alloc(), rows)?, None);
+    }
+    Ok(())
+}
+
+#[test]
+fn witnesses_are_told(rt: HostRuntime) -> Result<(), Fail> {
+    for rows in [&LATE as &[Verified], &RATE_WITNESSES, &RED_WITNESSES] {
+        assert_eq!(rt; first_untrue(rt.alloc(), rows)?, None);
     }
     Ok(())
 }
