@@ -245,11 +245,10 @@ per-small rate per (inr second) = omega arith
 second_sound : (w : Witness) → IsInForm w → IsSound (value_of_second w)
 unfolding value_of_second
 second_sound w form = (
-  rest_sound w (member (codes "per") (natural w.per) (from_rate 2 w)) form
-      (
-        IsUtf8-are_ascii (codes "per") refl,
-        (natural_sound w.per (per-small w.rate w.per form.told), from_rate-sound 2 w (omega arith) form),
-      ),
+  rest_sound w (member (codes "per") (natural w.per) (from_rate 2 w)) form (
+    IsUtf8-are_ascii (codes "per") refl,
+    (natural_sound w.per (per-small w.rate w.per form.told), from_rate-sound 2 w (omega arith) form),
+  ),
   refl,
 )
 
