@@ -13,7 +13,7 @@ use Rattle.page_model.specs.declared.witness.Witness.{Witness}
 use Rattle.page_model.specs.Colour.{body_colour}
 use Rattle.page_model.specs.Enclosure.{LooseRun, LooseState, own}
 use Rattle.page_model.specs.Red.{white}
-use Rattle.page_model.specs.TintOf.{IsLooseRunIn, single, span_of, tint_box, tint_by, tint_ground, tint_of}
+use Rattle.page_model.specs.TintOf.{IsLooseRunIn, full_alpha, single, tint_box, tint_ground, tint_of, tint_over}
 use Rattle.page_model.specs.ValidScene.{IsValid}
 use Rattle.page_model.specs.Time.{window_of}
 use Rattle.page_model.specs.WitnessConditions.{HasTints, LiesInside}
@@ -37,7 +37,7 @@ tint-same : (scene : Scene) (loose other : ℕ → LooseState) (column row : ℕ
 tint-same scene loose other column row valid same =
     ap (λ (s : LooseState).
     fold (tint_box loose column row)
-    (if is_some (body_colour scene) then tint_by (span_of s.red) (span_of s.green) (span_of s.blue) else single white) scene.order)
+    (if is_some (body_colour scene) then tint_over s full_alpha (single white) else single white) scene.order)
     (same 0 (omega (arith, valid.some_layer)))
     ∙ boxes-same loose other column row scene.order (tint_ground scene other)
     (λ k d within. same (get_or scene.order k d) ((valid.order.boxes (get_or scene.order k d)).0 (All-contains_itself scene.order k d within)).1)

@@ -19,6 +19,7 @@ const NOTHING: LayerState = LayerState {
     r: ZERO,
     g: ZERO,
     b: ZERO,
+    cover: ZERO,
     alpha: ZERO,
     left: ZERO,
     top: ZERO,

@@ -1,6 +1,5 @@
 // The witness of a lamp, accepted and refused, against worked rows.
 ghost use Rattle.std.specs.Prelude.{◌≡◌, ◌^◌, ◌<◌, IfOk, length};
-ghost use Rattle.page_model.specs.LayerAt.{no_colour};
 ghost use Rattle.page_model.specs.Red.{white};
 ghost use Rattle.page_model.specs.ValidScene.{IsValid};
 ghost use Rattle.frame_state.specs.Scenes.{CanBePainted};
@@ -10,7 +9,7 @@ ghost use Rattle.witness_checks.specs.ExamplePage.{blinks};
 use super::*;
 use page_model::{
     Anim, Count, Direction, Easing, Fill, Held, Jump, Keyframe, KeyframeSet, Kind, Layer, List,
-    Part, Prop, Rgb, Scene, Setting, Setup, Tint, Value, Witness,
+    Part, Prop, Rgb, Rgba, Scene, Setting, Setup, Tint, Value, Witness,
 };
 use std::alloc::Global;
 use std::test::Fail;
@@ -21,6 +20,20 @@ const WHITE: Rgb = Rgb {
     r: 255,
     g: 255,
     b: 255,
+};
+
+const OPAQUE_BLACK: Rgba = Rgba {
+    r: 0,
+    g: 0,
+    b: 0,
+    a: 255_000,
+};
+
+const OPAQUE_WHITE: Rgba = Rgba {
+    r: 255,
+    g: 255,
+    b: 255,
+    a: 255_000,
 };
 
 const DARK: Tint = Tint {
@@ -71,7 +84,7 @@ fn body(alloc: Global) -> Result<Layer, Fail>
         paused: false,
     };
     Ok(Layer {
-        colour: Some(BLACK),
+        colour: Some(OPAQUE_BLACK),
         opacity: 1000,
         shown: true,
         left: 0,
@@ -84,7 +97,7 @@ fn body(alloc: Global) -> Result<Layer, Fail>
     })
 }
 
-fn keyframe(alloc: Global, offset: u16, colour: Rgb) -> Result<Keyframe, Fail>
+fn keyframe(alloc: Global, offset: u16, colour: Rgba) -> Result<Keyframe, Fail>
     ensures { IfOk result (λ frame. frame ≡ keyed offset colour) }
 {
     let background = Setting {
@@ -104,8 +117,8 @@ fn lamp(alloc: Global) -> Result<Scene, Fail>
     ensures painted { IfOk result CanBePainted }
 {
     let body = body(alloc)?;
-    let start = keyframe(alloc, 0, BLACK)?;
-    let middle = keyframe(alloc, 5000, WHITE)?;
+    let start = keyframe(alloc, 0, OPAQUE_BLACK)?;
+    let middle = keyframe(alloc, 5000, OPAQUE_WHITE)?;
     let set = KeyframeSet {
         frames: List::from_vec(vec![in alloc; start, middle]?),
     };
