@@ -1,6 +1,5 @@
 // The witness of a lamp, against a worked row.
 ghost use Rattle.std.specs.Prelude.{◌≡◌, false, IfOk};
-ghost use Rattle.page_model.specs.LayerAt.{no_colour};
 ghost use Rattle.page_model.specs.Red.{white};
 ghost use Rattle.page_model.specs.ValidScene.{IsValid};
 ghost use Rattle.frame_state.specs.Scenes.{CanBePainted, is_coloured};
@@ -11,7 +10,7 @@ ghost use Rattle.witness_make.specs.ExamplePage.{blinks};
 use super::*;
 use page_model::{
     Anim, BadWindow, Count, Direction, Easing, Fill, Held, Jump, Keyframe, KeyframeSet, Kind,
-    Layer, List, Prop, Rgb, Scene, Setting, Setup, Value, Witness,
+    Layer, List, Prop, Rgb, Rgba, Scene, Setting, Setup, Value, Witness,
 };
 use std::alloc::Global;
 use std::test::Fail;
@@ -23,6 +22,20 @@ const WHITE: Rgb = Rgb {
     r: 255,
     g: 255,
     b: 255,
+};
+
+const OPAQUE_BLACK: Rgba = Rgba {
+    r: 0,
+    g: 0,
+    b: 0,
+    a: 255_000,
+};
+
+const OPAQUE_WHITE: Rgba = Rgba {
+    r: 255,
+    g: 255,
+    b: 255,
+    a: 255_000,
 };
 
 const NOT_HELD: Held = Held {
@@ -52,7 +65,7 @@ fn body(alloc: Global) -> Result<Layer, Fail>
         paused: false,
     };
     Ok(Layer {
-        colour: Some(BLACK),
+        colour: Some(OPAQUE_BLACK),
         opacity: 1000,
         shown: true,
         left: 0,
@@ -65,7 +78,7 @@ fn body(alloc: Global) -> Result<Layer, Fail>
     })
 }
 
-fn keyframe(alloc: Global, offset: u16, colour: Rgb) -> Result<Keyframe, Fail>
+fn keyframe(alloc: Global, offset: u16, colour: Rgba) -> Result<Keyframe, Fail>
     ensures { IfOk result (λ frame. frame ≡ keyed offset colour) }
 {
     let background = Setting {
@@ -86,8 +99,8 @@ fn lamp(alloc: Global) -> Result<Scene, Fail>
     ensures grey { IfOk result (λ scene. is_coloured scene ≡ false) }
 {
     let body = body(alloc)?;
-    let start = keyframe(alloc, 0, BLACK)?;
-    let middle = keyframe(alloc, 5000, WHITE)?;
+    let start = keyframe(alloc, 0, OPAQUE_BLACK)?;
+    let middle = keyframe(alloc, 5000, OPAQUE_WHITE)?;
     let set = KeyframeSet {
         frames: List::from_vec(vec![in alloc; start, middle]?),
     };

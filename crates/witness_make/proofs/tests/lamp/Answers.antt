@@ -4,11 +4,9 @@ use Rattle.page_model.specs.declared.keyframe.Keyframe.{Keyframe}
 use Rattle.page_model.specs.declared.keyframe.KeyframeSet.{KeyframeSet}
 use Rattle.page_model.specs.declared.scene.Layer.{Layer}
 use Rattle.page_model.specs.declared.scene.Scene.{Scene}
-use Rattle.page_model.specs.LayerAt.{no_colour}
-use Rattle.page_model.specs.Red.{white}
 use Rattle.page_model.specs.ValidScene.{IsValid}
 use Rattle.frame_state.specs.Scenes.{CanBePainted, is_coloured}
-use Rattle.state_laws.specs.ExamplePage.{body_with, keyed, turns_white}
+use Rattle.state_laws.specs.ExamplePage.{body_with, keyed, opaque_black, opaque_white, turns_white}
 use Rattle.witness_make.specs.ExamplePage.{blinks, lamp}
 use Rattle.witness_make.proofs.ExampleLemmas.{lamp-grey, lamp-painted, lamp-valid}
 use Rattle.witness_make.proofs.tests.lamp.Goals as goal
@@ -20,7 +18,7 @@ same_scene layers order sets P first second third here =
     λ i. record { layers = sym first i; order = sym second i; sets = sym third i } in
     subst P same here
 
-keyframes_are : (one other : Keyframe) {frames : List Keyframe} → one ≡ keyed 0 no_colour → other ≡ keyed 5000 white → frames ≡ one ∷ (other ∷ [])
+keyframes_are : (one other : Keyframe) {frames : List Keyframe} → one ≡ keyed 0 opaque_black → other ≡ keyed 5000 opaque_white → frames ≡ one ∷ (other ∷ [])
     → frames ≡ (turns_white 5000).frames
 keyframes_are one other first second all = all ∙ (λ i. first i ∷ (second i ∷ []))
 
