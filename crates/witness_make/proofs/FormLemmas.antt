@@ -13,8 +13,8 @@ use Rattle.page_model.specs.declared.witness.Witness.{Witness}
 use Rattle.page_model.specs.Cells.{cells_between}
 use Rattle.page_model.specs.Change.{IsSingle}
 use Rattle.page_model.specs.Time.{window_of}
-use Rattle.page_model.specs.ValidScene.{IsColour}
 use Rattle.page_model.specs.Viewing.{IsRate}
+use Rattle.wide_laws.specs.PaintLaws.{IsPixel}
 use Rattle.page_model.specs.WitnessConditions.{HasSetup}
 use Rattle.region_split.specs.declared.types.Rect.{Rect}
 use Rattle.region_split.specs.Cutting.{Edges, cell_of}
@@ -27,7 +27,7 @@ use Rattle.witness_make.specs.Turns.{no_tint}
 use Rattle.witness_text.specs.WitnessForm.{IsInForm, IsPartInForm, IsTintInForm, IsToldRate, word_limit}
 
 -- a tint of one colour is in form
-single-form : (tint : Tint) → IsSingle tint → IsColour tint.hi → IsTintInForm tint
+single-form : (tint : Tint) → IsSingle tint → IsPixel tint.hi → IsTintInForm tint
 single-form tint single fits =
     let red : tint.lo.r ≡ tint.hi.r = ap (λ (c : Rgb). c.r) single in
     let green : tint.lo.g ≡ tint.hi.g = ap (λ (c : Rgb). c.g) single in
@@ -54,7 +54,7 @@ tints-form scene setup start x y cell part of k d below =
     let same : get_or part.tints k no_tint ≡ get_or told.tints place no_tint = told.tells.turns.tints_are k turn in
     let single : IsSingle (get_or part.tints k no_tint) =
     subst (λ (t : Tint). IsSingle t) (sym same) (told.own_tints place place_below).is_single in
-    let fits : IsColour (get_or part.tints k no_tint).hi = of.bytes k no_tint below in
+    let fits : IsPixel (get_or part.tints k no_tint).hi = of.bytes k no_tint below in
     let here : get_or part.tints k no_tint ≡ get_or part.tints k d =
     get_or_from_slice_get part.tints k (get_or part.tints k d) no_tint (slice_get-get_or part.tints k d below) in
     subst (λ (t : Tint). IsTintInForm t) here (single-form (get_or part.tints k no_tint) single fits)

@@ -7,7 +7,7 @@ use Rattle.page_model.specs.declared.witness.Part.{Part}
 use Rattle.page_model.specs.Red.{white}
 use Rattle.page_model.specs.Time.{window_of}
 use Rattle.page_model.specs.TintOf.{single}
-use Rattle.page_model.specs.ValidScene.{IsColour}
+use Rattle.wide_laws.specs.PaintLaws.{IsPixel}
 use Rattle.cell_tints.specs.Tints.{IsOwnTint}
 use Rattle.flash_count.specs.declared.tracing.Trace.{Trace}
 use Rattle.flash_count.specs.Chains.{IsFirstTrace}
@@ -37,7 +37,7 @@ pub record AreTurnsBefore (start : ℕ) (tints : List Tint) (places : List ℕ) 
 
 -- the upper colour of each tint has channels from 0 to 255
 abbrev pub AreOfBytes : List Tint → Type 0
-AreOfBytes tints = All (λ (tint : Tint). IsColour tint.hi) tints
+AreOfBytes tints = All (λ (tint : Tint). IsPixel tint.hi) tints
 
 -- a part tells the nine frames and tints of a trace
 pub record TellsTrace (start : ℕ) (tints : List Tint) (trace : Trace) (part : Part) : Type 0 where

@@ -1,6 +1,6 @@
 // The tints of a cell in a window, and the nine turns that a part tells of them.
 ghost use Rattle.std.specs.Prelude.{◌≡◌, ◌+◌, ◌*◌, ◌^◌, ◌<◌, ◌≤◌, length, All};
-ghost use Rattle.page_model.specs.ValidScene.{IsColour};
+ghost use Rattle.wide_laws.specs.PaintLaws.{IsPixel};
 ghost use Rattle.witness_make.specs.Turns.{ArePicked, AreOfBytes, TellsTrace};
 
 use flash_count::Trace;
@@ -37,7 +37,7 @@ pub(crate) fn see(all: &[Tint], cells: u32, number: u32, tints: &mut [Tint])
 /// A tint as it is: its channels are bytes.
 fn kept(tint: Tint) -> Tint
     ensures same { result ≡ tint }
-    ensures bytes { IsColour result.hi }
+    ensures bytes { IsPixel result.hi }
 {
     tint
 }

@@ -4,7 +4,7 @@ use Rattle.std.proofs.lemmas.List.{length-set}
 use Rattle.std.proofs.lemmas.List.Elements.{All-set}
 use Rattle.std.proofs.lemmas.Option.{get_or_from_slice_get, slice_get-get_or}
 use Rattle.page_model.specs.declared.colour.Tint.{Tint}
-use Rattle.page_model.specs.ValidScene.{IsColour}
+use Rattle.wide_laws.specs.PaintLaws.{IsPixel}
 use Rattle.witness_make.specs.Turns.{AreTurnsBefore, no_tint}
 use Rattle.witness_make.proofs.TurnLemmas.{turns-more}
 use Rattle.witness_make.proofs.turns.told.Goals as goal
@@ -20,7 +20,7 @@ loop-turn-preserved c =
           (c.kept.ensures.same ∙ get_or_from_slice_get c.args.tints.now (get_or c.args.trace.places c.loop-turn.turn 0)
           (get_or c.args.tints.now (get_or c.args.trace.places c.loop-turn.turn 0) no_tint) _
           (slice_get-get_or c.args.tints.now (get_or c.args.trace.places c.loop-turn.turn 0) no_tint near));
-      bytes = All-set (λ (tint : Tint). IsColour tint.hi) c.loop-turn.told c.loop-turn.turn c.kept.result c.kept.ensures.bytes c.loop-turn.invariant.bytes;
+      bytes = All-set (λ (tint : Tint). IsPixel tint.hi) c.loop-turn.told c.loop-turn.turn c.kept.result c.kept.ensures.bytes c.loop-turn.invariant.bytes;
     }
 
 pub returns-clause-tells : goal.returns-clause-tells
