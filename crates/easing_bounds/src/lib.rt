@@ -8,10 +8,12 @@
 //! does not yet answer for a cubic curve, whose value is no fraction.
 #![tactic(auto)]
 
+mod curve;
 mod easings;
 mod steps;
 #[cfg(test)]
 mod tests;
 pub mod types;
 
+pub use curve::within;
 pub use easings::eased;
