@@ -1,11 +1,11 @@
 -- The place of an input on a curve, found by halving, and what products of its point's numbers come to.
-use Rattle.std.proofs.Common.{◌≡◌, ℕ, suc, ◌+◌, ◌-◌, ◌*◌, ◌/◌, ◌^◌, ◌<◌, ◌≤◌, ℤ, pos, ◌+ℤ◌, ◌-ℤ◌, ◌*ℤ◌, Bool, true, refl, ap, ◌∙◌, sym, arith, le-leb, leb-true, le-div_iff_mul-le}
+use Rattle.std.proofs.Common.{◌≡◌, ℕ, suc, ◌+◌, ◌-◌, ◌*◌, ◌/◌, ◌^◌, ◌<◌, ◌≤◌, ℤ, pos, ◌+ℤ◌, ◌-ℤ◌, ◌*ℤ◌, refl, ap, ◌∙◌, sym, arith, le-leb, leb-true, le-div_iff_mul-le}
 use Rattle.std.specs.Int.{int_div_euclid}
 use Rattle.std.proofs.lemmas.Int.{ints}
 use Rattle.std.proofs.lemmas.Nat.{mul-le}
 use Rattle.std.proofs.Math.Nat.{pow-suc}
-use Rattle.page_model.specs.Curve.{column_at, height_at, is_left, point_of}
-use Rattle.page_model.specs.Enclosure.{own_scale, own_height, own_least, own_greatest}
+use Rattle.page_model.specs.Curve.{column_at, height_at, point_of}
+use Rattle.page_model.specs.Enclosure.{own_scale, own_height}
 use Rattle.page_model.specs.Fraction.{Fraction}
 use Rattle.page_model.specs.ValidScene.{IsCurve}
 use Rattle.fix_span.specs.declared.span.Span.{Span}

@@ -1,6 +1,6 @@
 -- The ends are the own ones, and so the value lies between them and near to each.
 use Rattle.std.proofs.Common.{arith, subst, sym, FitsSigned}
-use Rattle.std.specs.Int.{w16, w64, w128}
+use Rattle.std.specs.Int.{w16, w128}
 use Rattle.std.proofs.lemmas.Int.{ints, to_z-of_z}
 use Rattle.fix_span.specs.Frac.{fraction_of}
 use Rattle.fix_span.specs.declared.span.Span.{Span}
