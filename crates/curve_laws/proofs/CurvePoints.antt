@@ -154,3 +154,12 @@ point_of-before x1 x2 at r m first second some =
           let last = point_of-last x1 x2 at m (suc (point_of x1 x2 at m)) next (left-coarser x1 x2 at r m (suc (point_of x1 x2 at m)) some left) in
           absurd (omega (arith, last))
     ]
+
+-- a point that isn't right of the input, before one that is, is the last such point
+pub point_of-is : (x1 x2 : ℕ) (at : Fraction) (m j : ℕ) → x1 ≤ 1000 → x2 ≤ 1000 → j < m → is_left x1 x2 at m j ≡ true
+    → (is_left x1 x2 at m (suc j) ≡ true → ⊥) → point_of x1 x2 at m ≡ j
+point_of-is x1 x2 at m j first second below left right =
+    elim (cases_lt j (point_of x1 x2 at m)) [
+      | inl after ↦ absurd (right (left-before x1 x2 at m (suc j) (point_of x1 x2 at m) first second after (point_of_le x1 x2 at m) (point_of-left x1 x2 at m)))
+      | inr before ↦ let last = point_of-last x1 x2 at m j (omega (arith, below)) left in omega (arith, before, last)
+    ]

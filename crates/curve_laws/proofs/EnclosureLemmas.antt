@@ -1,14 +1,15 @@
 -- Proofs of how the enclosures of eased values nest.
-use Rattle.std.proofs.Common.{ℕ, inl, inr}
-use Rattle.std.specs.Prelude.{ℤ}
+use Rattle.std.proofs.Common.{ℕ, ◌^◌, arith, inl, inr}
+use Rattle.std.specs.Prelude.{ℤ, pos, neg_ℤ, ◌+ℤ◌, ◌-ℤ◌, ◌≤ℤ◌, ◌<ℤ◌}
+use Rattle.std.proofs.lemmas.Int.{ints}
 use Rattle.std.proofs.lemmas.Bool.{cases_Bool}
 use Rattle.page_model.specs.declared.easing.Easing.TheVariants.{Linear, Steps, Cubic}
 use Rattle.page_model.specs.Curve.{CurveReaches, Reaches, curve_height}
-use Rattle.page_model.specs.Enclosure.{own, wide, own_scale, own_height, AllReachInside, SomeReachInside, AllReach, SomeReach, is_inner}
+use Rattle.page_model.specs.Enclosure.{own, wide, own_scale, own_height, own_least, own_greatest, AllReachInside, SomeReachInside, AllReach, SomeReach, is_inner}
 use Rattle.page_model.specs.Fraction.{Fraction}
-use Rattle.curve_laws.specs.EnclosureLaws.{Follows, IntervalsNest, FollowsFor, ReachesNest}
+use Rattle.curve_laws.specs.EnclosureLaws.{Follows, IntervalsNest, IsNear, EndsAreNear, FollowsFor, ReachesNest}
 use Rattle.curve_laws.proofs.CurveLemmas.{reaches_from_room}
-use Rattle.curve_laws.proofs.IntervalLemmas.{floor_of, room_from_all, some_from_reach, all_from_wide, wide_from_some, wide_factor, wide_less}
+use Rattle.curve_laws.proofs.IntervalLemmas.{floor_of, room_from_all, some_from_reach, all_from_wide, wide_from_some, wide_factor, wide_less, short_of, past}
 
 -- the height of a curve at the scale of the own kind
 abbrev height : ℕ → ℤ → ℕ → ℤ → Fraction → ℤ
@@ -36,6 +37,29 @@ intervals_nest = record {
   all_own = all-own_exact;
   some_own = some-exact_own;
   some_wide = some-own_wide;
+}
+
+-- an end that is up to 6145 parts away from the height rounded down
+end-near : (x1 : ℕ) (y1 : ℤ) (x2 : ℕ) (y2 : ℤ) (at : Fraction) (end : ℤ)
+    → (own_height x1 y1 x2 y2 at -ℤ pos 6144) ≤ℤ end → end ≤ℤ (own_height x1 y1 x2 y2 at +ℤ pos 6145) → IsNear x1 y1 x2 y2 at end
+end-near x1 y1 x2 y2 at end low high =
+    let f : ℤ = own_height x1 y1 x2 y2 at in
+    record {
+      below = λ reach. short_of (height x1 y1 x2 y2 at) f (end +ℤ pos (2 ^ 14)) (floor_of (height x1 y1 x2 y2 at)) (above f end low) (reach 22);
+      above = λ reach. past (height x1 y1 x2 y2 at) f (neg_ℤ (end -ℤ pos (2 ^ 14))) (floor_of (height x1 y1 x2 y2 at)) (below f end high) (reach 22);
+    } where
+      above : (f end : ℤ) → (f -ℤ pos 6144) ≤ℤ end → (f +ℤ pos 6145) <ℤ (end +ℤ pos (2 ^ 14))
+      above f end low = omega (arith, ints)
+
+      below : (f end : ℤ) → end ≤ℤ (f +ℤ pos 6145) → pos 6144 <ℤ (neg_ℤ (end -ℤ pos (2 ^ 14)) +ℤ f)
+      below f end high = omega (arith, ints)
+
+pub ends_are_near : EndsAreNear
+ends_are_near = record {
+  least = λ x1 y1 x2 y2 at. let f : ℤ = own_height x1 y1 x2 y2 at in
+      end-near x1 y1 x2 y2 at (own_least x1 y1 x2 y2 at) (omega (arith, ints)) (omega (arith, ints));
+  greatest = λ x1 y1 x2 y2 at. let f : ℤ = own_height x1 y1 x2 y2 at in
+      end-near x1 y1 x2 y2 at (own_greatest x1 y1 x2 y2 at) (omega (arith, ints)) (omega (arith, ints));
 }
 
 easing-all_wide : FollowsFor (AllReach wide) (AllReach own)

@@ -1,7 +1,7 @@
 -- The own interval of a curve's value at scale 2^22: its ends are the height there, rounded down to parts of 2^30, less 6144 and more
 -- 6145. What all of the interval reaches is reached with room at that scale, and what is reached at that scale some of it reaches.
 use Rattle.std.proofs.Common.{◌≡◌, ℕ, zero, suc, refl, ap, ◌+◌, ◌*◌, ◌^◌, ◌<◌, ◌≤◌, arith}
-use Rattle.std.specs.Prelude.{ℤ, pos, negsuc, ◌+ℤ◌, ◌-ℤ◌, ◌*ℤ◌, ◌≤ℤ◌, neg_ℤ, nat_abs}
+use Rattle.std.specs.Prelude.{ℤ, pos, negsuc, ◌+ℤ◌, ◌-ℤ◌, ◌*ℤ◌, ◌≤ℤ◌, ◌<ℤ◌, neg_ℤ, nat_abs}
 use Rattle.std.specs.Int.{int_min, int_max, int_div_euclid}
 use Rattle.std.proofs.lemmas.Int.{ints, clamps}
 use Rattle.std.proofs.lemmas.Nat.{div-add-mod', mod_below}
@@ -215,3 +215,23 @@ wide_from_some (negsuc a) b h f floor some =
     let order : (negsuc a *ℤ greatest f) ≤ℤ (negsuc a *ℤ least f) = omega (arith, ints, low, high) in
     let reach = (max_out (b *ℤ pos (2 ^ 30)) (negsuc a *ℤ least f) (negsuc a *ℤ greatest f) some).1 order in
     wide_in (negsuc a) b h (omega (arith, ints, reach, times, times_is b (2 ^ 30), times_is b unit, height, low))
+
+-- what is more than 6145 parts above the height rounded down isn't reached at the scale, and of what is more than 6144 below it the
+-- negation isn't reached
+pub short_of : (h f b : ℤ) → IsFloor h f → (f +ℤ pos 6145) <ℤ b
+    → (b *ℤ pos unit) ≤ℤ (pos (2 ^ 30) *ℤ h +ℤ pos (slack (pos (2 ^ 30)))) → ⊥
+short_of h f b floor far reach =
+    let far_parts : up f + down b + 6145 < up b + down f = omega (arith, ints, far) in
+    let product = product_is (pos (2 ^ 30)) h (up h) (down h) (parts_of h) in
+    let whole : (up b * unit + down h * 2 ^ 30) ≤ (down b * unit + up h * 2 ^ 30 + 24000 * 2 ^ 30 * 2 ^ 44) =
+    omega (arith, ints, reach, product, times_is b unit) in
+    omega (arith, far_parts, whole, floor.high)
+
+pub past : (h f b : ℤ) → IsFloor h f → pos 6144 <ℤ (b +ℤ f)
+    → (b *ℤ pos unit) ≤ℤ (neg_ℤ (pos (2 ^ 30)) *ℤ h +ℤ pos (slack (neg_ℤ (pos (2 ^ 30))))) → ⊥
+past h f b floor far reach =
+    let far_parts : down f + down b + 6144 < up b + up f = omega (arith, ints, far) in
+    let product = product_is (neg_ℤ (pos (2 ^ 30))) h (up h) (down h) (parts_of h) in
+    let whole : (up b * unit + up h * 2 ^ 30) ≤ (down b * unit + down h * 2 ^ 30 + 24000 * 2 ^ 30 * 2 ^ 44) =
+    omega (arith, ints, reach, product, times_is b unit) in
+    omega (arith, far_parts, whole, floor.low)

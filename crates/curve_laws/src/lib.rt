@@ -18,6 +18,6 @@ mod slot;
 pub use curve::{
     bare_reach_breaks, curve_is_steady, reach_is_antitone, reach_is_kept_at_finer_scales,
 };
-pub use enclosure::{intervals_nest, reaches_nest};
+pub use enclosure::{ends_are_near, intervals_nest, reaches_nest};
 pub use ends::{counts_by_number, curve_ends};
 pub use slot::{loose_channels_nest, loose_shown_nests, loose_slots_nest};

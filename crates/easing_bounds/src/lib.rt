@@ -8,8 +8,10 @@
 //! does not yet answer for a cubic curve, whose value is no fraction.
 #![tactic(auto)]
 
+mod curve;
 mod easings;
 mod steps;
 pub mod types;
 
+pub use curve::within;
 pub use easings::eased;
