@@ -61,8 +61,8 @@ own-alike scene setup frames edges i frame column row other_column other_row loo
     λ number below.
     elim (slice_get_cases scene.layers number).1 [
       | inl found ↦
-        loose_state-unique own scene setup frame found.0 (loose number) (other number) (first number found.0 found.2)
-        (second number found.0 found.2)
+          loose_state-unique own scene setup frame found.0 (loose number) (other number) (first number found.0 found.2)
+          (second number found.0 found.2)
       | inr past ↦ absurd (let far = past.0 in omega arith)
     ] in
     tint-alike scene loose other column row other_column other_row valid (record {
@@ -72,9 +72,9 @@ own-alike scene setup frames edges i frame column row other_column other_row loo
         alike =
             elim (slice_get_cases scene.layers number).1 [
               | inl found ↦
-                covers-alike scene setup frames edges frame number found.0 (loose number) i column row other_column other_row cut less below
-                found.2 (first number found.0 found.2) known one two
-                ∙ ap (λ (state : LooseState). covers_surely state other_column other_row) (same number below)
+                  covers-alike scene setup frames edges frame number found.0 (loose number) i column row other_column other_row cut less below
+                  found.2 (first number found.0 found.2) known one two
+                  ∙ ap (λ (state : LooseState). covers_surely state other_column other_row) (same number below)
               | inr past ↦ absurd (let far = past.0 in omega arith)
             ];
       };

@@ -6,8 +6,8 @@ ghost use Rattle.page_reader.specs.PageSymbols.{are_box_attributes, are_html_att
 
 use crate::distinct::are_distinct;
 use page_model::NoMemory;
-use std::alloc::Global;
 use page_tokens::{HtmlAttribute, is_word};
+use std::alloc::Global;
 
 /// Whether the attribute has this name, in any case.
 pub(crate) fn is_named(name: &[u8], attribute: &HtmlAttribute<'_>) -> bool

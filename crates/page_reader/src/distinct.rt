@@ -6,10 +6,10 @@ ghost use Rattle.page_reader.specs.PageNames.{IsAdded, has};
 ghost use Rattle.page_reader.specs.PageSymbols.{are_distinct};
 
 use page_model::NoMemory;
+use page_tokens::HtmlAttribute;
 use std::alloc::Global;
 use std::collections::BTreeSet;
 use std::marker::Model;
-use page_tokens::HtmlAttribute;
 
 /// The names that were seen, in lower case.
 #[derive(Drop)]

@@ -11,8 +11,8 @@ use crate::attributes::is_named;
 use crate::stage::NOWHERE;
 use crate::symbol::{BoxTag, Symbol};
 use page_model::{Element, List, Name, NoMemory, Place, Tag};
-use std::alloc::{AllocError, Global};
 use page_tokens::{HtmlAttribute, HtmlWord};
+use std::alloc::{AllocError, Global};
 
 /// White space: space, tab, line feed, form feed or carriage return.
 fn is_white(byte: u8) -> bool

@@ -7,8 +7,8 @@ use crate::elements::element_of;
 use crate::stage::{Stage, next_stage};
 use crate::symbols::symbol_of;
 use page_model::{List, NoMemory, PageText};
-use std::alloc::Global;
 use page_tokens::HtmlWord;
+use std::alloc::Global;
 
 /// The page of these tokens, which may have any number of boxes, or where the tokens of a text of this length cease to
 /// be a page's.

@@ -9,8 +9,8 @@ ghost use Rattle.page_reader.specs.PageText.{IsPageFault, IsRead, SpellsNone, is
 use crate::fault::PageFault;
 use crate::judging::judge;
 use page_model::PageText;
-use std::alloc::Global;
 use page_tokens::{HtmlWord, ScanFault, scan_words};
+use std::alloc::Global;
 
 /// The most boxes of a page, and its body.
 const MOST_ELEMENTS: usize = 65;

@@ -7,8 +7,8 @@ use crate::attributes::{are_box_attributes, are_html_attributes, are_meta_attrib
 use crate::symbol::{BoxTag, Symbol};
 use crate::tag_name::{TagName, tag_named};
 use page_model::NoMemory;
-use std::alloc::Global;
 use page_tokens::{HtmlAttribute, HtmlKind, HtmlWord};
+use std::alloc::Global;
 
 /// The symbol where a test holds.
 fn where_good(good: bool, symbol: Symbol) -> Symbol

@@ -145,11 +145,11 @@ further : (kind : Kind) (tints : List Tint) (a b : ℕ) → TakeTurnsTo kind tru
 further kind tints a b up down =
     elim (cases_lt a b) [
       | inl less ↦
-        let same : b ≡ max a b = omega arith in
-        surely-by kind (take (max a b) tints) (inr (subst (λ (k : ℕ). TakeTurns kind false (take k tints)) same down.held))
+          let same : b ≡ max a b = omega arith in
+          surely-by kind (take (max a b) tints) (inr (subst (λ (k : ℕ). TakeTurns kind false (take k tints)) same down.held))
       | inr more ↦
-        let same : a ≡ max a b = omega arith in
-        surely-by kind (take (max a b) tints) (inl (subst (λ (k : ℕ). TakeTurns kind true (take k tints)) same up.held))
+          let same : a ≡ max a b = omega arith in
+          surely-by kind (take (max a b) tints) (inl (subst (λ (k : ℕ). TakeTurns kind true (take k tints)) same up.held))
     ]
 
 -- neither way goes on

@@ -32,17 +32,21 @@ before-it start count at edge (inr behind) least most = grind (arith, ints)
 spans-alike : (start count at : ℕ) (from size : Loose) → AreBeside start count from size → start ≤ at → at < start + count
     → spans_surely from size at ≡ spans_surely from size start
 spans-alike start count at from size beside least most =
-    rw (before-it start count at from.lo beside.least_from least most,
-    at-or-before start count at (from.hi +ℤ size.hi) beside.greatest_to least most,
-    at-or-before start count at from.hi beside.greatest_from least most,
-    before-it start count at (from.lo +ℤ size.lo) beside.least_to least most) refl
+    rw (
+      before-it start count at from.lo beside.least_from least most,
+      at-or-before start count at (from.hi +ℤ size.hi) beside.greatest_to least most,
+      at-or-before start count at from.hi beside.greatest_from least most,
+      before-it start count at (from.lo +ℤ size.lo) beside.least_to least most,
+    ) refl
 
 -- and covers all pixels of a part alike
 covers-alike : (part : Part) (box : LooseState) (column row : ℕ) → IsUncut part box → IsOfPart part column row
     → covers_surely box column row ≡ covers_surely box part.x part.y
 covers-alike part box column row uncut inside =
-    rw (spans-alike part.x part.width column box.left box.width uncut.columns inside.right_of inside.left_of,
-    spans-alike part.y part.height row box.top box.height uncut.rows inside.below inside.above) refl
+    rw (
+      spans-alike part.x part.width column box.left box.width uncut.columns inside.right_of inside.left_of,
+      spans-alike part.y part.height row box.top box.height uncut.rows inside.below inside.above,
+    ) refl
 
 -- where the first pixel has a tint, all have it
 pub all-have : (scene : Scene) (states : ℕ → LooseState) (part : Part) (tint : Tint) → IsValid scene → IsUncutByAll scene states part
@@ -62,7 +66,7 @@ pub box-in-slots : (scene : Scene) (states : List LayerState) (number : ℕ) (d 
 box-in-slots scene states number d valid same ready some below =
     elim (slice_get_cases scene.layers number).1 [
       | inl found ↦
-        subst IsInSlots (states_as-there states number d below)
-        (ready number found.0 found.2 (valid.boxes number found.0 some found.2))
+          subst IsInSlots (states_as-there states number d below)
+          (ready number found.0 found.2 (valid.boxes number found.0 some found.2))
       | inr past ↦ absurd (let far = past.0 in omega arith)
     ]
