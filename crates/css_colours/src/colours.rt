@@ -106,10 +106,17 @@ fn rgb_of(text: &[u8], tokens: &[CssToken]) -> Option<Rgba>
 }
 
 /// A colour: `#` and three or six hexadecimal digits, a name of the table, or `rgb(`, three whole numbers and `)`.
-#[tactic(auto, unfolding(crate::specs::Colours::colour_of))]
 pub fn colour(text: &[u8], tokens: &[CssToken]) -> Result<Rgba, ValueFault>
     ensures exact { result ≡ colour_of (words text.now tokens.now) }
     ensures valid { IfOk result IsColour }
+{
+    spelled(text, tokens)
+}
+
+/// A colour.
+#[tactic(auto, unfolding(crate::specs::Colours::colour_of))]
+fn spelled(text: &[u8], tokens: &[CssToken]) -> Result<Rgba, ValueFault>
+    ensures { result ≡ colour_of (words text.now tokens.now) }
 {
     if let Some(bytes) = lone_hash(text, tokens) {
         if let Some(colour) = hash_colour(bytes) {
