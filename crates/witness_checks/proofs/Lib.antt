@@ -5,4 +5,3 @@ pub mod OneLemmas
 pub mod OverlapLemmas
 mod TintLemmas
 pub mod TurnLemmas
-mod UncutLemmas

@@ -4,4 +4,3 @@ pub mod Kept
 pub mod OwnTints
 pub mod Places
 pub mod Turns
-pub mod Uncut

@@ -19,7 +19,6 @@ mod laws;
 mod overlap;
 mod place;
 mod tints;
-mod uncut;
 
 pub use accepting::accepts;
 pub use fault::WitnessFault;

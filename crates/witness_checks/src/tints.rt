@@ -13,7 +13,6 @@ ghost use Rattle.witness_checks.specs.Kept.{IsKept};
 ghost use Rattle.witness_checks.specs.OwnTints.{AllHaveTint, IsFirstWrongColumn, IsFirstWrongOf, IsFirstWrongTurn, IsOwnIn, RowHasTint};
 
 use crate::kept::{KeptStates, NO_STATES};
-use crate::uncut::is_uncut_by_all;
 use frame_state::LayerState;
 use page_model::{Part, Scene, Setup, Tint, Witness};
 use paint_blend::tint_of;
@@ -85,25 +84,6 @@ fn wrong_in_rows(scene: &Scene, states: &[LayerState], part: &Part, tint: Tint) 
     None
 }
 
-/// The first pixel of a part that hasn't a tint, by the states of the layers. Where no edge of a box cuts the part, its
-/// first pixel stands for all of them.
-fn wrong_pixel(scene: &Scene, states: &[LayerState], part: &Part, tint: Tint) -> Option<Pixel>
-    requires valid { IsValid scene.now }
-    requires states { length states.now ≡ length scene.now.layers }
-    requires ready { AreReady scene.now (states_as states.now) }
-    requires columns { part.now.x + part.now.width < 2 ^ 16 }
-    requires rows { part.now.y + part.now.height < 2 ^ 16 }
-    ensures { MatchOption result (AllHaveTint (tint_by scene.now (states_as states.now)) part.now tint)
-        (λ pixel. IsFirstWrongOf (tint_by scene.now (states_as states.now)) part.now tint pixel.x pixel.y) }
-{
-    if is_uncut_by_all(scene, states, part) {
-        if tint_of(scene, states, part.x, part.y) == tint {
-            return None;
-        }
-    }
-    wrong_in_rows(scene, states, part, tint)
-}
-
 /// The first pixel of a part that hasn't a tint in a frame, whose states are kept from then on.
 fn wrong_in_frame(
     scene: &Scene,
@@ -126,7 +106,7 @@ fn wrong_in_frame(
         → IsFirstWrongOf (tint_by scene.now states) part.now tint pixel.x pixel.y) }
 {
     kept.see(scene, setup, frame);
-    wrong_pixel(scene, kept.states(scene), part, tint)
+    wrong_in_rows(scene, kept.states(scene), part, tint)
 }
 
 /// The first turn of a part in which a pixel hasn't the stated tint, and the first such pixel. States are kept by turn.
