@@ -1,15 +1,16 @@
--- Colours that are given have channels from 0 to 255.
-use Rattle.std.proofs.Common.{ℕ, ◌≡◌, ◌≤◌, ◌+◌, ◌*◌, ◌==◌, Bool, true, false, List, [], ◌∷◌, Option, Some, None, Ok, cond, length, min, codes, refl, ap, subst, arith, nat_lt, option_and_then}
+-- Colours that are given have channels from 0 to 255, and an alpha from 0 to 255,000.
+use Rattle.std.proofs.Common.{ℕ, ◌≡◌, ◌≤◌, ◌+◌, ◌*◌, ◌==◌, Bool, true, false, List, [], ◌∷◌, Option, Some, None, Ok, cond, length, min, refl, ap, subst, arith, nat_lt, option_and_then}
 use Rattle.std.specs.Char.{digit_value}
 use Rattle.std.proofs.lemmas.Bool.Decides.{nat_tests}
 use Rattle.page_model.specs.declared.colour.Rgba.{Rgba}
 use Rattle.page_model.specs.ValidScene.{IsColour}
 use Rattle.css_words.specs.Keywords.{lookup}
-use Rattle.css_colours.specs.ColourNames.{colour, colour_names}
-use Rattle.css_words.specs.Words.{Word, lone, when_hash, when_ident, behind, is_comma, is_close, or_else, function_at, ended}
-use Rattle.css_colours.specs.Colours.{pair, channels, hash_colour, channel_at, channel_and_comma, rgb_of, colour_of}
-use Rattle.css_words.specs.Numerals.{whole_at}
+use Rattle.css_colours.specs.ColourNames.{colour, unseen, colour_names}
+use Rattle.css_words.specs.Words.{Word, lone, when_hash, when_ident, behind, is_comma, is_close, or_else, ended}
+use Rattle.css_colours.specs.Colours.{pair, channels, hash_colour, channel_at, channel_and_comma, opening_at, alpha_at, rgb_of, colour_of}
+use Rattle.css_words.specs.Numerals.{whole_at, share_at}
 use Rattle.css_words.proofs.GivenLemmas.{bad_ok}
+use Rattle.css_words.proofs.ShareLemmas.{share_at_is}
 use Rattle.css_words.proofs.TableLemmas.{Entries, lookup_is}
 
 and_then_is : {A B : Type 0} (P : B → Type 0) (f : A → Option B) (o : Option A) → ((a : A) → o ≡ Some a → (b : B) → f a ≡ Some b → P b) → (b : B) → option_and_then f o ≡ Some b → P b
@@ -32,29 +33,40 @@ pair_is high low n e =
     (λ y bad. absurd (cc)) x f)
     (λ x bad. absurd (cc)) n e
 
-channels_are : (r g b : Option ℕ) → ((n : ℕ) → r ≡ Some n → n ≤ 255) → ((n : ℕ) → g ≡ Some n → n ≤ 255) → ((n : ℕ) → b ≡ Some n → n ≤ 255)
-    → (c : Rgba) → channels r g b ≡ Some c → IsColour c
+channels_are : (r g b a : Option ℕ) → ((n : ℕ) → r ≡ Some n → n ≤ 255) → ((n : ℕ) → g ≡ Some n → n ≤ 255) → ((n : ℕ) → b ≡ Some n → n ≤ 255)
+    → ((n : ℕ) → a ≡ Some n → n ≤ 255) → (c : Rgba) → channels r g b a ≡ Some c → IsColour c
 unfolding channels
-channels_are None g b h i j c e = absurd (cc)
-channels_are (Some r) None b h i j c e = absurd (cc)
-channels_are (Some r) (Some g) None h i j c e = absurd (cc)
-channels_are (Some r) (Some g) (Some b) h i j c e =
-    let same : colour r g b ≡ c = cc in
+channels_are None g b a h i j k c e = absurd (cc)
+channels_are (Some r) None b a h i j k c e = absurd (cc)
+channels_are (Some r) (Some g) None a h i j k c e = absurd (cc)
+channels_are (Some r) (Some g) (Some b) None h i j k c e = absurd (cc)
+channels_are (Some r) (Some g) (Some b) (Some a) h i j k c e =
+    let same : ◌≡◌ {A = Rgba} (record { r = r; g = g; b = b; a = 1000 * a }) c = cc in
+    let few = k a refl in
     subst IsColour same (record { red = h r refl; green = i g refl; blue = j b refl; alpha = omega arith })
+
+full_is : (n : ℕ) → Some 255 ≡ Some n → n ≤ 255
+full_is n e = let same : 255 ≡ n = cc in omega arith
 
 hash_is : (bytes : List ℕ) (c : Rgba) → hash_colour bytes ≡ Some c → IsColour c
 unfolding hash_colour
 hash_is bytes c e =
-    either_is IsColour (length bytes == 4) _ _ (λ x is f. channels_are _ _ _ (pair_is _ _) (pair_is _ _) (pair_is _ _) x f)
-    (λ x f. either_is IsColour (length bytes == 7) _ None (λ y is g. channels_are _ _ _ (pair_is _ _) (pair_is _ _) (pair_is _ _) y g) (λ y bad. absurd (cc)) x f)
+    either_is IsColour (length bytes == 4) _ _ (λ x is f. channels_are _ _ _ _ (pair_is _ _) (pair_is _ _) (pair_is _ _) full_is x f)
+    (λ x f. either_is IsColour (length bytes == 5) _ _ (λ y is g. channels_are _ _ _ _ (pair_is _ _) (pair_is _ _) (pair_is _ _) (pair_is _ _) y g)
+    (λ y g. either_is IsColour (length bytes == 7) _ _ (λ z is h. channels_are _ _ _ _ (pair_is _ _) (pair_is _ _) (pair_is _ _) full_is z h)
+    (λ z h. either_is IsColour (length bytes == 9) _ None (λ u is i. channels_are _ _ _ _ (pair_is _ _) (pair_is _ _) (pair_is _ _) (pair_is _ _) u i)
+    (λ u bad. absurd (cc)) z h) y g) x f)
     c e
 
 a_colour : (r g b : ℕ) → r ≤ 255 → g ≤ 255 → b ≤ 255 → IsColour (colour r g b)
 a_colour r g b h i j = record { red = h; green = i; blue = j; alpha = omega arith }
 
+is_unseen : IsColour unseen
+is_unseen = record { red = omega arith; green = omega arith; blue = omega arith; alpha = omega arith }
+
 named_are : Entries IsColour colour_names
 unfolding colour_names
-named_are = (a_colour 0 255 255 (omega arith) (omega arith) (omega arith), (a_colour 0 0 0 (omega arith) (omega arith) (omega arith), (a_colour 0 0 255 (omega arith) (omega arith) (omega arith), (a_colour 255 0 255 (omega arith) (omega arith) (omega arith), (a_colour 128 128 128 (omega arith) (omega arith) (omega arith), (a_colour 0 128 0 (omega arith) (omega arith) (omega arith), (a_colour 0 255 0 (omega arith) (omega arith) (omega arith), (a_colour 128 0 0 (omega arith) (omega arith) (omega arith), (a_colour 0 0 128 (omega arith) (omega arith) (omega arith), (a_colour 128 128 0 (omega arith) (omega arith) (omega arith), (a_colour 255 165 0 (omega arith) (omega arith) (omega arith), (a_colour 128 0 128 (omega arith) (omega arith) (omega arith), (a_colour 255 0 0 (omega arith) (omega arith) (omega arith), (a_colour 192 192 192 (omega arith) (omega arith) (omega arith), (a_colour 0 128 128 (omega arith) (omega arith) (omega arith), (a_colour 255 255 255 (omega arith) (omega arith) (omega arith), (a_colour 255 255 0 (omega arith) (omega arith) (omega arith), tt)))))))))))))))))
+named_are = (a_colour 0 255 255 (omega arith) (omega arith) (omega arith), (a_colour 0 0 0 (omega arith) (omega arith) (omega arith), (a_colour 0 0 255 (omega arith) (omega arith) (omega arith), (a_colour 255 0 255 (omega arith) (omega arith) (omega arith), (a_colour 128 128 128 (omega arith) (omega arith) (omega arith), (a_colour 0 128 0 (omega arith) (omega arith) (omega arith), (a_colour 0 255 0 (omega arith) (omega arith) (omega arith), (a_colour 128 0 0 (omega arith) (omega arith) (omega arith), (a_colour 0 0 128 (omega arith) (omega arith) (omega arith), (a_colour 128 128 0 (omega arith) (omega arith) (omega arith), (a_colour 255 165 0 (omega arith) (omega arith) (omega arith), (a_colour 128 0 128 (omega arith) (omega arith) (omega arith), (a_colour 255 0 0 (omega arith) (omega arith) (omega arith), (a_colour 192 192 192 (omega arith) (omega arith) (omega arith), (a_colour 0 128 128 (omega arith) (omega arith) (omega arith), (is_unseen, (a_colour 255 255 255 (omega arith) (omega arith) (omega arith), (a_colour 255 255 0 (omega arith) (omega arith) (omega arith), tt))))))))))))))))))
 
 same_some : (x y : ℕ × List Word) → ◌≡◌ {A = Option (ℕ × List Word)} (Some x) (Some y) → x ≡ y
 same_some x y h = cc
@@ -80,17 +92,31 @@ ended_is : {A : Type 0} (P : A → Type 0) (value : A) (words : List Word) → P
 ended_is P value [] good x e = let same : value ≡ x = cc in subst P same good
 ended_is P value (w ∷ words) good x e = absurd (cc)
 
+alpha_is : (words : List Word) (f : ℕ × List Word) → alpha_at words ≡ Some f → f.0 ≤ 1000
+unfolding alpha_at
+alpha_is words f e = by (behind is_comma words) e where
+  by : (o : Option (List Word)) → elim o [ None ↦ Some (1000, words) | Some rest ↦ share_at rest ] ≡ Some f → f.0 ≤ 1000
+  by None e = let first : 1000 ≡ f.0 = ap (λ (p : ℕ × List Word). p.0) (same_some (1000, words) f e) in omega (arith, first)
+  by (Some rest) e = share_at_is rest f e
+
 rgb_is : (words : List Word) (c : Rgba) → rgb_of words ≡ Some c → IsColour c
 unfolding rgb_of
 rgb_is words c e =
-    and_then_is IsColour _ (function_at (codes "rgb(") words) (λ inside is_inside x f.
+    and_then_is IsColour _ (opening_at words) (λ inside is_inside x f.
     and_then_is IsColour _ (channel_and_comma inside) (λ r is_r y g.
     and_then_is IsColour _ (channel_and_comma r.1) (λ green is_g z h.
     and_then_is IsColour _ (channel_at green.1) (λ b is_b u i.
-    and_then_is IsColour _ (behind is_close b.1) (λ rest is_rest v j.
-    ended_is IsColour (colour r.0 green.0 b.0) rest
-    (a_colour r.0 green.0 b.0 (channel_and_comma_is inside r is_r) (channel_and_comma_is r.1 green is_g) (channel_is green.1 b is_b)) v j)
-    u i) z h) y g) x f) c e
+    and_then_is IsColour _ (alpha_at b.1) (λ a is_a t k.
+    and_then_is IsColour _ (behind is_close a.1) (λ rest is_rest v j.
+    let few = alpha_is b.1 a is_a in
+    let is : IsColour (record { r = r.0; g = green.0; b = b.0; a = 255 * a.0 }) = record {
+      red = channel_and_comma_is inside r is_r;
+      green = channel_and_comma_is r.1 green is_g;
+      blue = channel_is green.1 b is_b;
+      alpha = omega (arith, few);
+    } in
+    ended_is IsColour (record { r = r.0; g = green.0; b = b.0; a = 255 * a.0 }) rest is v j)
+    t k) u i) z h) y g) x f) c e
 
 or_is : (p q : Option Rgba) → ((c : Rgba) → p ≡ Some c → IsColour c) → ((c : Rgba) → q ≡ Some c → IsColour c) → (c : Rgba) → or_else p q ≡ Some c → IsColour c
 or_is (Some x) q first second c e = first c e

@@ -6,7 +6,7 @@ ghost use Rattle.css_words.specs.Keywords.{lookup};
 use css_words::{Keyword, find};
 use page_model::Rgba;
 
-static COLOURS: [Keyword<Rgba>; 17] = [
+static COLOURS: [Keyword<Rgba>; 18] = [
     Keyword {
         word: b"aqua",
         value: Rgba {
@@ -140,6 +140,15 @@ static COLOURS: [Keyword<Rgba>; 17] = [
             g: 128,
             b: 128,
             a: 255_000,
+        },
+    },
+    Keyword {
+        word: b"transparent",
+        value: Rgba {
+            r: 0,
+            g: 0,
+            b: 0,
+            a: 0,
         },
     },
     Keyword {

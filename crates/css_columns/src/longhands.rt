@@ -10,8 +10,13 @@ use std::alloc::Global;
 fn durations(alloc: Global, items: &[Shorthand]) -> Result<List<u32>, NoMemory>
     ensures { IfOk result (λ list. list ≡ map (λ i. i.duration) items.now) }
 {
-    let values = items.iter().map(|item| item.duration).collect(alloc)?;
-    Ok(List::from_vec(values))
+    let mut list = List::new(alloc);
+    let mut rest = items;
+    'items: while let Some((first, more)) = rest.split_first() {
+        list.push(first.duration)?;
+        rest = more;
+    }
+    Ok(list)
 }
 
 /// The easings of the items.

@@ -1,5 +1,5 @@
 -- Numbers that are given are in their limits.
-use Rattle.std.proofs.Common.{ℕ, ℤ, pos, neg_ℤ, Bool, true, false, not, ◌==◌, ◌&&◌, ◌≡◌, ◌≤◌, List, Ok, Err, cond, length, min, codes, refl, sym, subst, inl, inr, arith, nat_lt}
+use Rattle.std.proofs.Common.{ℕ, ℤ, pos, neg_ℤ, Bool, true, false, not, ◌==◌, ◌&&◌, ◌≡◌, ◌≤◌, List, Some, Ok, Err, length, codes, refl, sym, subst, inl, inr, arith, nat_lt}
 use Rattle.std.proofs.lemmas.Bool.Decides.{eqb_tells, nat_tests}
 use Rattle.std.proofs.lemmas.Int.{ints}
 use Rattle.page_model.specs.declared.animation.Count.{Count}
@@ -7,11 +7,12 @@ use Rattle.page_model.specs.declared.animation.Count.TheVariants.{Times, Infinit
 use Rattle.page_model.specs.ValidScene.{IsBetween, IsPosition, IsExtent, IsCount}
 use Rattle.css_words.specs.declared.fault.ValueFault.TheVariants.{BadValue, OverLimit}
 use Rattle.css_words.specs.Keywords.{is_keyword}
-use Rattle.css_words.specs.Numerals.{Numeral, amount, is_zero, lone_number, signed_int}
+use Rattle.css_words.specs.Numerals.{Numeral, amount, is_zero, lone_number, share_of, signed_int}
 use Rattle.css_quantities.specs.Quantities.{within, size_of, length_size, length_of, time_size, time_of, duration_of, opacity_of, z_index_of, count_of}
 use Rattle.css_quantities.specs.ValidQuantities.{IsTime, IsLevel}
 use Rattle.css_words.specs.Words.{Word, is_lone}
 use Rattle.css_words.proofs.GivenLemmas.{if_ok, bad_ok, mapped_ok}
+use Rattle.css_words.proofs.ShareLemmas.{share_is}
 use Rattle.css_words.proofs.SignLemmas.{Held, between}
 
 within_is : (signed : Bool) (limit : ℕ) (negative : Bool) (n m : ℕ) → within signed limit negative n ≡ Ok m → Held signed negative limit m
@@ -97,13 +98,8 @@ pub opacity_is : (words : List Word) (n : ℕ) → opacity_of words ≡ Ok n →
 unfolding opacity_of
 opacity_is words n e =
     bad_ok (λ x. x ≤ 1000) (lone_number words) _ (λ a is x f.
-    if_ok (λ y. y ≤ 1000) (length a.unit == 0) _ (Err BadValue)
-    (λ y plain g. bad_ok (λ z. z ≤ 1000) (amount 3 a) _ (λ size size_is z same. held a.negative size z (let h : cond a.negative 0 (min size 1000) ≡ z = cc in h)) y g)
-    (λ y other bad. absurd (cc)) x f)
-    n e where
-      held : (negative : Bool) (size z : ℕ) → cond negative 0 (min size 1000) ≡ z → z ≤ 1000
-      held true size z e = omega arith
-      held false size z e = omega arith
+    bad_ok (λ y. y ≤ 1000) (share_of a) _ (λ k some y same. share_is a y (let is : k ≡ y = cc in subst (λ m. share_of a ≡ Some m) is some)) x f)
+    n e
 
 pub level_is : (words : List Word) (v : ℤ) → z_index_of words ≡ Ok v → IsLevel v
 unfolding z_index_of

@@ -1,12 +1,12 @@
 -- Lengths, times, percentages and plain numbers. A negative number where none may be spells no value; -0 is 0.
-use Rattle.std.specs.Prelude.{ℕ, ℤ, pos, Bool, true, false, ◌==◌, ◌&&◌, ◌||◌, not, List, length, Some, None, Result, Ok, Err, nat_lt, min, codes, if◌then◌else◌}
+use Rattle.std.specs.Prelude.{ℕ, ℤ, pos, Bool, true, false, ◌==◌, ◌&&◌, ◌||◌, not, List, length, Some, None, Result, Ok, Err, nat_lt, codes, if◌then◌else◌}
 use Rattle.page_model.specs.declared.animation.Count.{Count}
 use Rattle.page_model.specs.declared.animation.Count.TheVariants.{Times, Infinite}
 use Rattle.css_words.specs.declared.fault.ValueFault.{ValueFault}
 use Rattle.css_words.specs.declared.fault.ValueFault.TheVariants.{BadValue, OverLimit}
 use Rattle.css_words.specs.Keywords.{is_keyword}
 use Rattle.css_words.specs.Words.{Word, is_lone, or_bad, mapped}
-use Rattle.css_words.specs.Numerals.{Numeral, amount, is_zero, lone_number, signed_int}
+use Rattle.css_words.specs.Numerals.{Numeral, amount, is_zero, lone_number, share_of, signed_int}
 
 -- a number of parts that may be negative or not, and has a limit
 unfoldable pub within : Bool → ℕ → Bool → ℕ → Result ℕ ValueFault
@@ -47,8 +47,7 @@ percentage_of words = or_bad (lone_number words) (λ n.
 
 -- thousandths, held to 0 and 1: without unit, with three decimals at most
 unfoldable pub opacity_of : List Word → Result ℕ ValueFault
-opacity_of words = or_bad (lone_number words) (λ n.
-    if length n.unit == 0 then or_bad (amount 3 n) (λ size. Ok (if n.negative then 0 else min size 1000)) else Err BadValue)
+opacity_of words = or_bad (lone_number words) (λ n. or_bad (share_of n) (λ share. Ok share))
 
 -- `auto`, which is 0, or a whole number up to 1,000,000 without unit and point
 unfoldable pub z_index_of : List Word → Result ℤ ValueFault

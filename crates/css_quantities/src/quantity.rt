@@ -8,7 +8,7 @@ ghost use Rattle.css_words.specs.Numerals.{signed_int};
 ghost use Rattle.css_quantities.specs.ValidQuantities.{IsLevel, IsTime};
 ghost use Rattle.css_words.specs.Words.{words};
 
-use css_words::{Number, ValueFault, amount, is_keyword, is_lone, is_zero, lone_number};
+use css_words::{Number, ValueFault, amount, is_keyword, is_lone, is_zero, lone_number, share_of};
 use page_model::Count;
 use style_tokens::CssToken;
 
@@ -187,15 +187,8 @@ pub fn opacity(text: &[u8], tokens: &[CssToken]) -> Result<u16, ValueFault>
 fn held_opacity(text: &[u8], tokens: &[CssToken]) -> Result<u16, ValueFault>
     ensures { result ≡ opacity_of (words text.now tokens.now) }
 {
-    let Some(number) = lone_number(text, tokens) else {
-        return Err(ValueFault::BadValue);
-    };
-    if !number.unit.is_empty() {
-        return Err(ValueFault::BadValue);
-    }
-    match amount(3, number) {
-        Some(_) if number.negative => Ok(0),
-        Some(size) => Ok(size.min(1000) as u16),
+    match lone_number(text, tokens) {
+        Some(number) => share_of(number).ok_or(ValueFault::BadValue),
         None => Err(ValueFault::BadValue),
     }
 }

@@ -1,5 +1,5 @@
 -- Quantities that are read are those that are spelled.
-use Rattle.std.proofs.Common.{ℕ, ℤ, pos, ◌≡◌, ◌∙◌, ◌==◌, ◌&&◌, ◌||◌, Bool, true, false, cond, List, [], ◌∷◌, length, min, Option, Some, None, Ok, Err, refl, ap, sym, subst, inl, inr, arith, codes}
+use Rattle.std.proofs.Common.{ℕ, ℤ, pos, ◌≡◌, ◌∙◌, ◌==◌, ◌&&◌, ◌||◌, Bool, true, false, cond, List, [], ◌∷◌, length, Option, Some, None, Ok, Err, refl, ap, sym, subst, inl, inr, arith, codes}
 use Rattle.std.proofs.lemmas.Bool.{cases_Bool, and_parts, and_from, or_cases, or_left, or_right}
 use Rattle.std.proofs.lemmas.Int.{ints}
 use Rattle.page_model.specs.declared.animation.Count.{Count}
@@ -7,18 +7,19 @@ use Rattle.page_model.specs.declared.animation.Count.TheVariants.{Times, Infinit
 use Rattle.style_tokens.specs.declared.token.CssKind.TheVariants.{Ident, Number}
 use Rattle.css_words.specs.declared.fault.ValueFault.TheVariants.{BadValue}
 use Rattle.css_words.specs.Keywords.{is_keyword}
-use Rattle.css_words.specs.Numerals.{Numeral, lone_number, amount, is_zero, signed_int}
+use Rattle.css_words.specs.Numerals.{Numeral, lone_number, amount, is_zero, share_of, signed_int}
 use Rattle.css_quantities.specs.Quantities.{size_of, length_size, length_of, time_size, time_of, duration_of, percentage_of, opacity_of, z_index_of, count_of, is_nothing}
 use Rattle.css_words.specs.Words.{Word, is_lone, or_bad, mapped}
 use Rattle.css_word_laws.specs.SpelledNumbers.{Sign, word, with_sign, IsMeasure, IsNought}
 use Rattle.css_word_laws.specs.SpelledNumbers.Sign.{bare, plus, minus}
-use Rattle.css_quantity_laws.specs.SpelledQuantities.{MayStand, IsWithin, IsPast, SpellsLength, PastLength, SpellsTime, PastTime, SpellsDuration, SpellsPercentage, IsHeld, SpellsOpacity, SpellsZIndex, PastZIndex, SpellsCount, PastCount, SpellsNothing}
+use Rattle.css_quantity_laws.specs.SpelledQuantities.{MayStand, IsWithin, IsPast, SpellsLength, PastLength, SpellsTime, PastTime, SpellsDuration, SpellsPercentage, SpellsOpacity, SpellsZIndex, PastZIndex, SpellsCount, PastCount, SpellsNothing}
 use Rattle.css_word_laws.specs.SpelledWords.{IsWord}
 use Rattle.css_quantity_laws.specs.SpelledQuantities.SpellsCount.{endless, times}
 use Rattle.css_word_laws.specs.ValueLaws.{NonePast}
 use Rattle.css_word_laws.proofs.KeywordLemmas.{same_kind, one_keyword, empty_from, empty_to, unit_clear, none_clear, word_to, word_from}
 use Rattle.css_quantity_laws.proofs.MeasureLemmas.{Clear, IsSized, measure_to, measure_from, measure_none, nought_to, nought_from, nought_none, size_reads, read_is}
 use Rattle.css_word_laws.proofs.NumberLemmas.{is_minus, sign_of}
+use Rattle.css_word_laws.proofs.ShareLemmas.{share_parts, held_back}
 use Rattle.css_word_laws.proofs.Readings.{Reads, Becomes, reads_bad, reads_ok, reads_like, reads_mapped, reads_if, reads_of}
 
 clear_px : Clear (codes "px")
@@ -339,32 +340,23 @@ percentage_reads words = reads_of (lone_number words) _ (SpellsPercentage words)
         | inr other ↦ elim (cases_Bool n.signed) [ inl is ↦ rw (other, is) refl | inr none ↦ rw (other, none) refl ]
       ]
 
+spelled_share : (words : List Word) (n : Numeral) (v : ℕ) → lone_number words ≡ Some n → SpellsOpacity words v → share_of n ≡ Some v
+unfolding share_of
+spelled_share words n v e s =
+    let made = measure_from [] 3 words s.sign s.size n clear_none e s.measure in
+    rw (empty_from n.unit made.has_unit, made.amount_is, made.sign_is) (ap (λ t. Some t) (held_back s.sign s.size v s.held))
+
 pub opacity_reads : (words : List Word) → Reads (opacity_of words) (SpellsOpacity words) (NonePast words)
 unfolding opacity_of
 opacity_reads words = reads_of (lone_number words) _ (SpellsOpacity words) (NonePast words)
     (λ none. reads_bad _ _ (λ v s. measure_none [] 3 words s.sign s.size clear_none none s.measure) (λ p. p))
-    (λ n e. elim (cases_Bool (length n.unit == 0)) [
-      | inl is ↦ rw is (reads_of (amount 3 n) _ (SpellsOpacity words) (NonePast words)
-          (λ none. reads_bad _ _ (λ v s. let made = measure_from [] 3 words s.sign s.size n clear_none e s.measure in let f = made.amount_is in cc) (λ p. p))
-          (λ size some. reads_ok _ _ (cond n.negative 0 (min size 1000))
-          (record { sign = sign_of n; size = size; measure = measure_to [] 3 words n size e (empty_to n.unit is) some; held = held_is n size })
-          (λ v s. let made = measure_from [] 3 words s.sign s.size n clear_none e s.measure in let f = made.amount_is in
-          let same : size ≡ s.size = cc in
-          ap (λ b. cond b 0 (min size 1000)) made.sign_is ∙ ap (λ k. cond (is_minus s.sign) 0 (min k 1000)) same ∙ held_back s.sign s.size v s.held)
-          (λ p. p)))
-      | inr has ↦ rw has (reads_bad _ _ (λ v s. let made = measure_from [] 3 words s.sign s.size n clear_none e s.measure in let unit = made.has_unit in
-          let none = unit_none n.unit has in cc) (λ p. p))
-    ]) where
-      held_is : (n : Numeral) (size : ℕ) → IsHeld (sign_of n) size (cond n.negative 0 (min size 1000))
-      held_is n size = elim (cases_Bool n.negative) [
-        | inl is ↦ rw is refl
-        | inr other ↦ elim (cases_Bool n.signed) [ inl is ↦ rw (other, is) refl | inr none ↦ rw (other, none) refl ]
-      ]
-
-      held_back : (sign : Sign) (size v : ℕ) → IsHeld sign size v → cond (is_minus sign) 0 (min size 1000) ≡ v
-      held_back bare size v is = sym is
-      held_back plus size v is = sym is
-      held_back minus size v is = sym is
+    (λ n e. reads_of (share_of n) (λ share. Ok share) (SpellsOpacity words) (NonePast words)
+    (λ none. reads_bad _ _ (λ v s. let f = spelled_share words n v e s in cc) (λ p. p))
+    (λ k some. let parts = share_parts n k some in
+    reads_ok _ _ k (record { sign = sign_of n; size = parts.size; measure = measure_to [] 3 words n parts.size e (empty_of n.unit parts.no_unit) parts.amount_is; held = parts.held })
+    (λ v s. let f = spelled_share words n v e s in cc) (λ p. p))) where
+      empty_of : (unit : List ℕ) → unit ≡ [] → is_keyword [] unit ≡ true
+      empty_of unit none = rw none (empty_to [] refl)
 
 pub nothing_to : (words : List Word) → is_nothing words ≡ true → SpellsNothing words
 unfolding is_nothing

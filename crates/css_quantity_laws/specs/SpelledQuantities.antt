@@ -1,10 +1,9 @@
 -- Lengths, times, percentages and plain numbers, and those past a limit.
-use Rattle.std.specs.Prelude.{ℕ, ℤ, pos, Bool, true, false, ◌≡◌, ◌⊎◌, ◌<◌, ◌≤◌, ◌≤ℤ◌, List, [], codes, min}
+use Rattle.std.specs.Prelude.{ℕ, ℤ, pos, Bool, true, false, ◌≡◌, ◌⊎◌, ◌<◌, ◌≤◌, ◌≤ℤ◌, List, [], codes}
 use Rattle.page_model.specs.declared.animation.Count.{Count}
 use Rattle.page_model.specs.declared.animation.Count.TheVariants.{Times, Infinite}
 use Rattle.css_words.specs.Words.{Word}
-use Rattle.css_word_laws.specs.SpelledNumbers.{Sign, with_sign, IsMeasure, IsNought}
-use Rattle.css_word_laws.specs.SpelledNumbers.Sign.{minus}
+use Rattle.css_word_laws.specs.SpelledNumbers.{Sign, with_sign, IsHeld, IsMeasure, IsNought}
 use Rattle.css_word_laws.specs.SpelledWords.{IsWord}
 
 -- a negative number stands only where it may
@@ -54,10 +53,6 @@ pub record SpellsPercentage (words : List Word) (v : ℤ) : Type 0 where
   pub value : v ≡ with_sign sign size
 
 -- an opacity in thousandths, held to 0 and 1
-abbrev pub IsHeld : Sign → ℕ → ℕ → Type 0
-IsHeld minus size n = n ≡ 0
-IsHeld other size n = n ≡ min size 1000
-
 pub record SpellsOpacity (words : List Word) (n : ℕ) : Type 0 where
   pub sign : Sign
   pub size : ℕ

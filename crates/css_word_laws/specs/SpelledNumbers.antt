@@ -1,5 +1,5 @@
 -- Numbers of style text, put together from their parts: CSS Values and Units Module Level 3, as a profile.
-use Rattle.std.specs.Prelude.{ℕ, ℤ, pos, neg_ℤ, true, ◌≡◌, ◌<◌, ◌≤◌, ◌+◌, ◌-◌, ◌*◌, ◌^◌, List, [], ◌∷◌, ◌++◌, length}
+use Rattle.std.specs.Prelude.{ℕ, ℤ, pos, neg_ℤ, true, ◌≡◌, ◌<◌, ◌≤◌, ◌+◌, ◌-◌, ◌*◌, ◌^◌, List, [], ◌∷◌, ◌++◌, length, min}
 use Rattle.std.specs.List.{list_all}
 use Rattle.text_tokens.specs.Classes.{is_digit}
 use Rattle.style_tokens.specs.declared.token.CssKind.{CssKind}
@@ -41,6 +41,21 @@ pub record IsSize (places : ℕ) (whole fraction : List ℕ) (size : ℕ) : Type
   pub few : length whole ≤ 9
   pub decimals : length fraction ≤ places
   pub value : size * 10 ^ length fraction ≡ tens (whole ++ fraction) * 10 ^ places
+
+-- thousandths, held to 0 and 1
+abbrev pub IsHeld : Sign → ℕ → ℕ → Type 0
+IsHeld minus size n = n ≡ 0
+IsHeld other size n = n ≡ min size 1000
+
+-- the bytes are a number without unit and with three decimals at most, and this is it in thousandths, held to 0 and 1
+pub record IsShare (bytes : List ℕ) (n : ℕ) : Type 0 where
+  pub sign : Sign
+  pub whole : List ℕ
+  pub fraction : List ℕ
+  pub size : ℕ
+  pub number : IsNumber sign whole fraction [] bytes
+  pub is_size : IsSize 3 whole fraction size
+  pub held : IsHeld sign size n
 
 -- a word of a kind
 abbrev pub word : CssKind → List ℕ → Word

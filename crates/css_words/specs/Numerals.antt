@@ -1,5 +1,5 @@
 -- A number of style text in its parts, and its value.
-use Rattle.std.specs.Prelude.{ℕ, ℤ, pos, neg_ℤ, Bool, true, false, ◌==◌, ◌&&◌, ◌||◌, not, ◌+◌, ◌-◌, ◌*◌, ◌^◌, List, [], ◌∷◌, length, Option, Some, None, nat_le, if◌then◌else◌, option_and_then}
+use Rattle.std.specs.Prelude.{ℕ, ℤ, pos, neg_ℤ, Bool, true, false, ◌==◌, ◌&&◌, ◌||◌, not, ◌+◌, ◌-◌, ◌*◌, ◌^◌, List, [], ◌∷◌, length, Option, Some, None, nat_le, min, if◌then◌else◌, option_and_then}
 use Rattle.std.specs.List.{list_all}
 use Rattle.std.specs.Str.Parse.{digits_value}
 use Rattle.text_tokens.specs.Classes.{is_digit}
@@ -74,6 +74,15 @@ whole_of n = if n.signed || (not (length n.unit == 0)) then None else amount 0 n
 -- a whole number without sign, unit and point at the front
 unfoldable pub whole_at : List Word → Option (ℕ × List Word)
 whole_at words = option_and_then (λ f. option_and_then (λ n. Some (n, f.1)) (whole_of f.0)) (number_at words)
+
+-- the thousandths of a number without unit and with three decimals at most, held to 0 and 1
+unfoldable pub share_of : Numeral → Option ℕ
+share_of n =
+    if length n.unit == 0 then option_and_then (λ size. Some (if n.negative then 0 else min size 1000)) (amount 3 n) else None
+
+-- such a number at the front
+unfoldable pub share_at : List Word → Option (ℕ × List Word)
+share_at words = option_and_then (λ f. option_and_then (λ n. Some (n, f.1)) (share_of f.0)) (number_at words)
 
 -- a signed number of a size
 abbrev pub signed_int : Bool → ℕ → ℤ

@@ -19,7 +19,7 @@ mod word;
 pub use digits::digit_value;
 pub use fault::ValueFault;
 pub use keywords::{Keyword, find, is_keyword};
-pub use numeral::{Number, amount, is_zero, lone_number, number_at, whole_at};
+pub use numeral::{Number, amount, is_zero, lone_number, number_at, share_at, share_of, whole_at};
 pub use word::{
     behind_close, behind_comma, ended, function_at, ident_at, is_lone, lone_hash, lone_ident,
 };

@@ -2,7 +2,8 @@
 ghost use Rattle.std.specs.Prelude.{◌≡◌, ◌≤◌, IfSome, option_map};
 ghost use Rattle.style_tokens.specs.CssReading.{after_fraction};
 ghost use Rattle.css_words.specs.Numerals.{amount, fraction_of, is_nought, is_zero, lone_number, number_at};
-ghost use Rattle.css_words.specs.Numerals.{number_of, numeral, unsigned_of, whole_at, whole_of};
+ghost use Rattle.css_words.specs.Numerals.{number_of, numeral, share_at, share_of};
+ghost use Rattle.css_words.specs.Numerals.{unsigned_of, whole_at, whole_of};
 ghost use Rattle.css_words.specs.NumeralViews.{seen};
 ghost use Rattle.css_words.specs.Words.{words};
 ghost use Rattle.std.specs.List.{list_all};
@@ -180,4 +181,31 @@ pub fn whole_at<'a>(text: &'a [u8], tokens: &'a [CssToken]) -> Option<(u64, &'a 
     let (number, rest) = number_at(text, tokens)?;
     let whole = whole_of(number)?;
     Some((whole, rest))
+}
+
+/// The thousandths of a number without unit and with three decimals at most, held to 0 and 1.
+#[tactic(auto, unfolding(crate::specs::Numerals::share_of))]
+pub fn share_of(number: Number<'_>) -> Option<u16>
+    ensures share { result ≡ share_of (seen number.entry) }
+    ensures small { IfSome result (λ n. n ≤ 1000) }
+{
+    if !number.unit.is_empty() {
+        return None;
+    }
+    let size = amount(3, number)?;
+    if number.negative {
+        Some(0)
+    } else {
+        Some(size.min(1000) as u16)
+    }
+}
+
+/// The thousandths of such a number, and the tokens behind it.
+#[tactic(auto, unfolding(crate::specs::Numerals::share_at))]
+pub fn share_at<'a>(text: &'a [u8], tokens: &'a [CssToken]) -> Option<(u16, &'a [CssToken])>
+    ensures { option_map (λ f. (f.0, words text.now f.1.now)) result ≡ share_at (words text.now tokens.now) }
+{
+    let (number, rest) = number_at(text, tokens)?;
+    let share = share_of(number)?;
+    Some((share, rest))
 }

@@ -8,6 +8,8 @@
 #![tactic(auto)]
 
 #[cfg(test)]
+mod alpha;
+#[cfg(test)]
 mod boxes;
 #[cfg(test)]
 mod edge;

@@ -12,12 +12,14 @@ pub const ROOM: u32 = 4096;
 pub const CHECK: &str = "check p 1024x768 60";
 
 /// A page by its bytes, by its style text and its boxes, or as a lamp: two colours, and what its animation does; one of
-/// so many boxes, and so many spaces.
+/// a box, by its colour and what else its style has, with keyframes `f` from `transparent` to red; one of so many boxes,
+/// and so many spaces.
 #[derive(Clone, Copy)]
 pub enum Page {
     Whole(&'static [u8]),
     Styled(&'static str, &'static str),
     Lamp(&'static str, &'static str, &'static str),
+    Coloured(&'static str, &'static str),
     Boxes(usize),
     Spaces(usize),
 }
@@ -102,6 +104,12 @@ pub fn bytes_of(alloc: Global, page: Page) -> Result<Vec<u8>, Fail> {
         Page::Lamp(first, second, animation) => {
             let style = lamp(alloc, first, second, animation)?;
             page_of(alloc, style.as_str(), "")?
+        }
+        Page::Coloured(colour, more) => {
+            let style = format!(in alloc;
+                ".b{{position:absolute;left:0px;top:0px;width:10px;height:10px;background-color:{colour};{more}}}@keyframes f{{from{{background-color:transparent}}to{{background-color:#ff0000}}}}"
+            )?;
+            page_of(alloc, style.as_str(), "<div class=\"b\"></div>")?
         }
         Page::Boxes(count) => {
             let boxes = "<div></div>".repeat(alloc, count)?;

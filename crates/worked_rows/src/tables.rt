@@ -1,4 +1,5 @@
 // The tables of runs on one page.
+use crate::alpha::{ALPHA, NO_COLOURS};
 use crate::boxes::{BODIES, BOXES};
 use crate::edge::EDGE;
 use crate::endless::{ENDLESS, LATE};
@@ -30,6 +31,8 @@ fn rows_are_told(rt: HostRuntime) -> Result<(), Fail> {
         &RATES,
         &NO_RATES,
         &REDS,
+        &ALPHA,
+        &NO_COLOURS,
     ] {
         assert_eq!(rt; first_wrong(rt.alloc(), rows)?, None);
     }
