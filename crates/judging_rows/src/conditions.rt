@@ -54,6 +54,7 @@ fn fault_of(
         width: 1024,
         height: 768,
         rate: 60,
+        per: 1,
         start: 0,
         x: 0,
         y: 0,

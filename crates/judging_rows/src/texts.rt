@@ -1,4 +1,6 @@
 // Texts of witnesses, as another writer and another reader of JSON have them.
+ghost use Rattle.witness_text.specs.WitnessForm.{IsToldRate};
+
 use page_model::{Kind, List, Part, Rgb, Tint, Witness};
 use std::alloc::Global;
 use std::test::Fail;
@@ -88,7 +90,9 @@ fn two_greys() -> Part {
 }
 
 /// The text of a witness.
-fn text_of(alloc: Global, witness: &Witness) -> Result<Vec<u8>, Fail> {
+fn text_of(alloc: Global, witness: &Witness) -> Result<Vec<u8>, Fail>
+    requires { IsToldRate witness.now.rate witness.now.per }
+{
     Ok(to_text(alloc, witness)?)
 }
 
