@@ -27,7 +27,16 @@ fn rows_are_told(rt: HostRuntime) -> Result<(), Fail> {
         &LIMITS,
         &MISSING,
         &EDGE,
-        &ENDLESS,
+    ] {
+        assert_eq!(rt; first_wrong(rt.alloc(), rows)?, None);
+    }
+    Ok(())
+}
+
+#[test]
+fn rows_of_colours_and_rates_are_told(rt: HostRuntime) -> Result<(), Fail> {
+    for rows in [
+        &ENDLESS as &[Row],
         &RATES,
         &NO_RATES,
         &REDS,
