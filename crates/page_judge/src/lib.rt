@@ -6,7 +6,7 @@
 //! cause. The answers exclude each other, by each window wherever it starts: [`one_judgement`] is the law.
 //!
 //! It speaks of scenes, verdicts and witnesses alone: how a page is read, and how an answer is told, is the top's to say. Scenes with
-//! curves, moving boxes or colours aren't judged yet.
+//! curves or moving boxes aren't judged yet.
 #![tactic(auto)]
 
 mod judging;
