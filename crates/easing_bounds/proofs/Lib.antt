@@ -1,1 +1,2 @@
 pub mod CurveLemmas
+pub mod ToldLemmas

@@ -1,4 +1,5 @@
--- The numbers between which a curve's value lies, as the program has them, and the stretch of the curve in which an input is found.
+-- The numbers between which a curve's value lies, as the program has them, and the stretch of a curve in which an input
+-- is found.
 use Rattle.std.specs.Prelude.{ℕ, ℤ, pos, ◌+◌, ◌-◌, ◌*◌, ◌^◌, ◌<◌, ◌≤◌, ◌*ℤ◌, ◌≤ℤ◌}
 use Rattle.std.specs.Int.{int_min, int_max}
 use Rattle.page_model.specs.Curve.{column_at, first_term, second_term, CurveReaches}

@@ -42,12 +42,14 @@ fn eased_way(interval: Interval) -> Way
     requires second { HasAlpha interval.to }
     ensures { definition.way_as result ≡ definition.eased_way (definition.interval_as interval) }
 {
-    let Eased::Exact(part) = eased(&interval.easing, interval.distance);
-    Way {
-        from: interval.from,
-        to: interval.to,
-        part,
-        moves: true,
+    match eased(&interval.easing, interval.distance) {
+        Eased::Exact(part) => Way {
+            from: interval.from,
+            to: interval.to,
+            part,
+            moves: true,
+        },
+        Eased::Within(_) => unreachable!(),
     }
 }
 
