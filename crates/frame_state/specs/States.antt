@@ -101,15 +101,10 @@ nothing = record {
 abbrev pub states_as : List LayerState → ℕ → LooseState
 states_as states number = unwrap_or (option_map state_as (slice_get states number)) nothing
 
--- the states of all layers are those of the own kind; they have the values that are computed; and they are the exact states, whatever
--- these are
+-- the states of all layers are those of the own kind; and they are the exact states, whatever these are
 abbrev pub AreOwn : Scene → Setup → ℕ → (ℕ → LooseState) → Type 0
 AreOwn scene setup frame states =
     (number : ℕ) (layer : Layer) → slice_get scene.layers number ≡ Some layer → IsLooseStateAt own scene setup frame layer (states number)
-
-abbrev pub AreComputed : Scene → Setup → ℕ → (ℕ → LooseState) → Type 0
-AreComputed scene setup frame states =
-    (number : ℕ) (layer : Layer) → slice_get scene.layers number ≡ Some layer → states number ≡ known (state_at scene setup frame layer)
 
 abbrev pub AreExact : Scene → Setup → ℕ → (ℕ → LooseState) → Type 0
 AreExact scene setup frame states =

@@ -1,13 +1,13 @@
 // The state of a layer in a frame.
-ghost use Rattle.std.specs.Prelude.{Some, IfSome, ◌≡◌, ◌^◌, ◌<◌, length, slice_get};
+ghost use Rattle.std.specs.Prelude.{false, Some, IfSome, ◌≡◌, ◌^◌, ◌<◌, length, slice_get};
 ghost use Rattle.page_model.specs.declared.property.Prop.{Prop as Property};
 ghost use Rattle.page_model.specs.declared.scene.Layer.{Layer as Element};
 ghost use Rattle.page_model.specs.Enclosure.{own, one_value, IsLooseStateAt};
 ghost use Rattle.page_model.specs.LayerAt as definition;
 ghost use Rattle.page_model.specs.Slot as slots;
 ghost use Rattle.page_model.specs.ValidScene.{IsColour, IsValid};
-ghost use Rattle.frame_state.specs.Scenes.{CanBePainted};
-ghost use Rattle.frame_state.specs.States.{slot_as, loose_as, sureness_of, state_as, states_as, sure_with, state_by, known, IsInSlots, AreOwn, AreComputed, AreExact, AreInSlots};
+ghost use Rattle.frame_state.specs.Scenes.{CanBePainted, is_cubic};
+ghost use Rattle.frame_state.specs.States.{slot_as, loose_as, sureness_of, state_as, states_as, sure_with, state_by, known, IsInSlots, AreOwn, AreExact, AreInSlots};
 ghost use Rattle.frame_state.specs.Ways.{way_as, way_in, channel_by, shown_by as is_shown_by, value_by};
 
 use crate::channels::channel_on;
@@ -121,9 +121,7 @@ pub fn layer_at(scene: &Scene, setup: &Setup, k: u64, layer: u16) -> LayerState
     requires painted { CanBePainted scene.now }
     requires there { layer < length scene.now.layers }
     requires frame { k < 2 ^ 32 }
-    ensures computed { (l : Element) → slice_get scene.now.layers layer ≡ Some l
-        → state_as result ≡ known (definition.state_at scene.now setup.now k l) }
-    ensures exact { (l : Element) (state : definition.State)
+    ensures exact { is_cubic scene.now ≡ false → (l : Element) (state : definition.State)
         → slice_get scene.now.layers layer ≡ Some l
         → definition.IsStateAt scene.now setup.now k l state → state_as result ≡ known state }
     ensures own { (l : Element) → slice_get scene.now.layers layer ≡ Some l
@@ -141,8 +139,7 @@ pub fn states_at(scene: &Scene, setup: &Setup, k: u64, out: &mut [LayerState])
     requires painted { CanBePainted scene.now }
     requires frame { k < 2 ^ 32 }
     requires room { length out.old ≡ length scene.now.layers }
-    ensures computed { AreComputed scene.now setup.now k (states_as out.new) }
-    ensures exact { AreExact scene.now setup.now k (states_as out.new) }
+    ensures exact { is_cubic scene.now ≡ false → AreExact scene.now setup.now k (states_as out.new) }
     ensures own { AreOwn scene.now setup.now k (states_as out.new) }
     ensures ranges { AreInSlots scene.now (states_as out.new) }
 {

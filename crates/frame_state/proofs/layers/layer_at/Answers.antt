@@ -4,16 +4,8 @@ use Rattle.page_model.specs.declared.scene.Layer.{Layer}
 use Rattle.page_model.specs.Enclosure.{LooseState, IsLooseStateAt, own}
 use Rattle.frame_state.specs.States.{IsInSlots, state_as}
 use Rattle.frame_state.specs.Ways.{way_in}
-use Rattle.frame_state.proofs.StateLemmas.{known-is, layer-is, read-is, state_by-in_slots, state_by-loose, state_by-only, way-positive}
+use Rattle.frame_state.proofs.StateLemmas.{layer-is, read-is, state_by-in_slots, state_by-loose, state_by-only, way-positive}
 use Rattle.frame_state.proofs.layers.layer_at.Goals as goal
-
-pub returns-clause-computed : goal.returns-clause-computed
-returns-clause-computed c l is =
-    let element : Layer = c.index-as_slice-layer.result in
-    let same : element ≡ l = read-is c.args.scene.now.layers c.as_slice.result.now c.args.layer l element c.index-as_slice-layer.is c.as_slice.ensures is in
-    layer-is c.args.scene.now c.args.setup.now c.args.k l element c.as_slice-2.result.now c.ways_at-ways.result (state_as c.state_of.result)
-    same c.as_slice-2.ensures (c.ways_at-ways.ensures l is) c.state_of.ensures.value
-    ∙ known-is c.args.scene.now c.args.setup.now c.args.k l
 
 pub returns-clause-own : goal.returns-clause-own
 returns-clause-own c l is =
@@ -27,7 +19,7 @@ returns-clause-own c l is =
     same c.as_slice-2.ensures (c.ways_at-ways.ensures l is) c.state_of.ensures.positive))
 
 pub returns-clause-exact : goal.returns-clause-exact
-returns-clause-exact c l exact is state_is =
+returns-clause-exact c uncurved l exact is state_is =
     let element : Layer = c.index-as_slice-layer.result in
     let same : element ≡ l = read-is c.args.scene.now.layers c.as_slice.result.now c.args.layer l element c.index-as_slice-layer.is c.as_slice.ensures is in
     layer-is c.args.scene.now c.args.setup.now c.args.k l element c.as_slice-2.result.now c.ways_at-ways.result (state_as c.state_of.result)
