@@ -1,5 +1,6 @@
--- A tint by states of the own kind holds the colours by exact states, and lies in the tints by states of the wide kind.
-use Rattle.std.proofs.Common.{ℕ, ◌<◌, length, arith, inl, inr}
+-- A tint by states of the own kind is one whichever they are, holds the colours by exact states, and lies in the tints by states of the
+-- wide kind.
+use Rattle.std.proofs.Common.{◌≡◌, ℕ, ◌<◌, length, arith, inl, inr}
 use Rattle.std.proofs.lemmas.Option.{slice_get_cases}
 use Rattle.page_model.specs.declared.scene.Scene.{Scene}
 use Rattle.page_model.specs.declared.setup.Setup.{Setup}
@@ -12,11 +13,26 @@ use Rattle.flash_laws.specs.SureLaws.{IsOf}
 use Rattle.frame_state.specs.States.{AreOwn}
 use Rattle.tint_laws.specs.NestLaws.{LiesIn}
 use Rattle.tint_laws.specs.TintLaws.{LooseStateWithin, StateWithin}
+use Rattle.tint_laws.proofs.AlikeLemmas.{tint-same}
 use Rattle.tint_laws.proofs.KindLemmas.{state-in}
 use Rattle.tint_laws.proofs.TintLemmas.{tints_hold_colours}
 use Rattle.tint_laws.proofs.TintNestLemmas.{tints_hold_tints}
 use Rattle.tint_laws.proofs.WindowLemmas.{state-within}
+use Rattle.wide_laws.proofs.LooseLemmas.{loose_state-unique}
 use Rattle.paint_blend.specs.Paint.{AreStates, AreWide}
+
+pub own-same : (scene : Scene) (setup : Setup) (frame : ℕ) (loose other : ℕ → LooseState) (x y : ℕ) → IsValid scene
+    → AreOwn scene setup frame loose → AreOwn scene setup frame other → tint_of scene loose x y ≡ tint_of scene other x y
+own-same scene setup frame loose other x y valid first second =
+    tint-same scene loose other x y valid same where
+      same : (number : ℕ) → number < length scene.layers → loose number ≡ other number
+      same number within =
+          elim (slice_get_cases scene.layers number).1 [
+            | inl found ↦
+                loose_state-unique own scene setup frame found.0 (loose number) (other number)
+                (first number found.0 found.2) (second number found.0 found.2)
+            | inr past ↦ absurd (let far = past.0 in omega arith)
+          ]
 
 pub colour-held : (scene : Scene) (setup : Setup) (frame : ℕ) (loose : ℕ → LooseState) (states : ℕ → State) (x y : ℕ) → IsValid scene
     → AreOwn scene setup frame loose → AreStates scene setup frame states → IsOf (tint_of scene loose x y) (painted scene states x y)

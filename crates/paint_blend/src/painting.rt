@@ -175,15 +175,17 @@ pub fn tint_of(scene: &Scene, states: &[LayerState], x: u16, y: u16) -> Tint
     tint
 }
 
-/// The tint of a pixel in frame `k`, by the states of the own kind: it holds the pixel's exact colour, it lies
-/// in the tint by states of the wide kind, and its ends are in order. Where no easing is a curve it is the
-/// exact colour, as both ends.
+/// The tint of a pixel in frame `k`, by the states of the own kind, whichever they are. It holds the pixel's
+/// exact colour, it lies in the tint by states of the wide kind, and its ends are in order. Where no easing
+/// is a curve it is the exact colour, as both ends.
 pub fn tint(scene: &Scene, setup: &Setup, k: u64, x: u16, y: u16) -> Tint
     requires valid { IsValid scene.now }
     requires painted { CanBePainted scene.now }
     requires frame { k < 2 ^ 32 }
     ensures own { (states : ℕ → LooseState) × AreOwn scene.now setup.now k states
         × (result ≡ definition.tint_of scene.now states x y) }
+    ensures only { (states : ℕ → LooseState) → AreOwn scene.now setup.now k states
+        → result ≡ definition.tint_of scene.now states x y }
     ensures exact { is_cubic scene.now ≡ false → (states : ℕ → State)
         → AreStates scene.now setup.now k states
         → result ≡ definition.single (colours.painted scene.now states x y) }

@@ -1,14 +1,19 @@
--- The states that were written are exact ones, hold them and lie in the wide ones.
-use Rattle.std.proofs.Common.{subst, sym}
+-- The states that were written are the own ones, hold the exact ones and lie in the wide ones.
+use Rattle.std.proofs.Common.{subst, sym, ◌∙◌}
 use Rattle.page_model.specs.declared.colour.Tint.{Tint}
 use Rattle.page_model.specs.Colour.{painted}
 use Rattle.page_model.specs.TintOf.{tint_of}
 use Rattle.flash_laws.specs.SureLaws.{IsOf}
 use Rattle.frame_state.specs.States.{states_as}
 use Rattle.tint_laws.specs.NestLaws.{LiesIn}
-use Rattle.paint_blend.proofs.HeldLemmas.{colour-held, tint-within}
+use Rattle.paint_blend.proofs.HeldLemmas.{colour-held, own-same, tint-within}
 use Rattle.paint_blend.proofs.ReadyLemmas.{exact-known}
 use Rattle.paint_blend.proofs.painting.tint.Goals as goal
+
+pub returns-clause-only : goal.returns-clause-only
+returns-clause-only c states are =
+    c.tint_of.ensures.value
+    ∙ own-same c.args.scene.now c.args.setup.now c.args.k _ states c.args.x c.args.y c.requires.valid c.states_at.ensures.own are
 
 pub returns-clause-exact : goal.returns-clause-exact
 returns-clause-exact c uncurved states are =
