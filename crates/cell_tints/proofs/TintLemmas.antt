@@ -1,39 +1,28 @@
 -- Tints are told frame by frame, and of each frame cell by cell.
-use Rattle.std.proofs.Common.{◌≡◌, ◌∙◌, ℕ, ◌+◌, ◌*◌, ◌/◌, ◌%◌, ◌<◌, List, [], ◌∷◌, ◌++◌, length, slice_get, Some, option_map, unwrap_or, ap, arith, inl, inr, refl, subst, sym, length-append}
+use Rattle.std.proofs.Common.{◌≡◌, ◌∙◌, ℕ, ◌+◌, ◌*◌, ◌/◌, ◌%◌, ◌<◌, List, [], ◌∷◌, ◌++◌, length, slice_get, Some, ap, arith, inl, inr, refl, subst, sym, length-append}
 use Rattle.std.proofs.lemmas.Bool.{cases_lt}
 use Rattle.std.proofs.lemmas.Nat.{div-mul-add, mod-mul-add}
-use Rattle.std.proofs.lemmas.Option.{slice_get_cases, slice_get_within}
-use Rattle.page_model.specs.declared.colour.Rgb.{Rgb}
+use Rattle.std.proofs.lemmas.Option.{slice_get_within}
 use Rattle.page_model.specs.declared.colour.Tint.{Tint}
 use Rattle.page_model.specs.declared.scene.Scene.{Scene}
 use Rattle.page_model.specs.declared.setup.Setup.{Setup}
 use Rattle.page_model.specs.Enclosure.{LooseState}
-use Rattle.page_model.specs.LayerAt.{state_at}
-use Rattle.page_model.specs.TintOf.{single, tint_of}
-use Rattle.frame_state.specs.States.{AreComputed, AreOwn, known}
-use Rattle.paint_blend.specs.Paint.{AreKnown, computed_states, no_state}
+use Rattle.page_model.specs.TintOf.{tint_of}
+use Rattle.frame_state.specs.States.{AreOwn}
+use Rattle.paint_blend.specs.Paint.{IsOrdered}
 use Rattle.region_split.specs.Cutting.{Edges, cell_of}
 use Rattle.cell_tints.specs.Tints.{AreTintsBefore, IsOwnTint, cells_of}
 use Rattle.cell_tints.proofs.ListLemmas.{slice_get-back, slice_get-front}
 
--- states that are computed are known ones
-pub computed-known : (scene : Scene) (setup : Setup) (frame : ℕ) (loose : ℕ → LooseState) → AreComputed scene setup frame loose
-    → AreKnown scene loose (computed_states scene setup frame)
-computed-known scene setup frame loose computed number within =
-    elim (slice_get_cases scene.layers number).1 [
-      | inl found ↦ computed number found.0 found.2 ∙ sym (ap (λ o. known (unwrap_or (option_map (state_at scene setup frame) o) no_state)) found.2)
-      | inr past ↦ absurd (let far = past.0 in omega arith)
-    ]
-
 -- what is told of a pixel in a frame
-pub own-tint : (scene : Scene) (setup : Setup) (frame number x y : ℕ) (tint : Tint) (colour : Rgb) → number ≡ frame
-    → ((states : ℕ → LooseState) × AreOwn scene setup number states × (tint ≡ tint_of scene states x y)) → tint ≡ single colour
+pub own-tint : (scene : Scene) (setup : Setup) (frame number x y : ℕ) (tint : Tint) → number ≡ frame
+    → ((states : ℕ → LooseState) × AreOwn scene setup number states × (tint ≡ tint_of scene states x y)) → IsOrdered tint
     → IsOwnTint scene setup frame x y tint
-own-tint scene setup frame number x y tint colour same own one = record {
+own-tint scene setup frame number x y tint same own ordered = record {
   states = own.0;
   own_states = subst (λ k. AreOwn scene setup k own.0) same own.1;
   is = own.2;
-  is_single = ap (λ (t : Tint). t.lo) one ∙ sym (ap (λ (t : Tint). t.hi) one);
+  ordered = ordered;
 }
 
 pub tints-none : (scene : Scene) (setup : Setup) (edges : Edges) (start : ℕ) → AreTintsBefore scene setup edges start 0 []

@@ -5,18 +5,18 @@ use Rattle.page_model.specs.declared.colour.Tint.{Tint}
 use Rattle.page_model.specs.declared.scene.Scene.{Scene}
 use Rattle.page_model.specs.declared.setup.Setup.{Setup}
 use Rattle.page_model.specs.Cells.{cells_between}
-use Rattle.page_model.specs.Change.{IsSingle}
 use Rattle.page_model.specs.Enclosure.{LooseState}
 use Rattle.page_model.specs.TintOf.{tint_of}
 use Rattle.frame_state.specs.States.{AreOwn}
+use Rattle.paint_blend.specs.Paint.{IsOrdered}
 use Rattle.region_split.specs.Cutting.{Edges, cell_of}
 
--- a tint is that of a pixel in a frame, by states of the own kind, and one colour
+-- a tint is that of a pixel in a frame, by states of the own kind, and has its ends in order
 pub record IsOwnTint (scene : Scene) (setup : Setup) (frame column row : ℕ) (tint : Tint) : Type 0 where
   pub states : ℕ → LooseState
   pub own_states : AreOwn scene setup frame states
   pub is : tint ≡ tint_of scene states column row
-  pub is_single : IsSingle tint
+  pub ordered : IsOrdered tint
 
 -- how many cells there are
 abbrev pub cells_of : Edges → ℕ

@@ -1,3 +1,5 @@
 mod ExactLemmas
+mod HeldLemmas
+pub mod OrderLemmas
 mod ReadyLemmas
 mod SpanLemmas

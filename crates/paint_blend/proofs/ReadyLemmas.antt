@@ -1,5 +1,5 @@
 -- The states that are read are those of layers with a colour.
-use Rattle.std.proofs.Common.{◌≡◌, ℕ, ◌<◌, ◌≤◌, true, List, Option, Some, None, get_or, length, slice_get, take, ◌+◌, option_map, unwrap_or, is_some, IsSome, arith, refl, sym, ap, ◌∙◌, subst, inl, inr}
+use Rattle.std.proofs.Common.{◌≡◌, ℕ, ◌<◌, ◌≤◌, true, List, Option, Some, None, get_or, length, slice_get, take, ◌+◌, is_some, IsSome, arith, refl, sym, ap, ◌∙◌, subst, inl, inr}
 use Rattle.std.specs.Prelude.{fold}
 use Rattle.std.proofs.lemmas.List.Sums.{fold_more}
 use Rattle.std.proofs.lemmas.List.Elements.{All-contains_itself}
@@ -10,13 +10,13 @@ use Rattle.page_model.specs.declared.scene.Scene.{Scene}
 use Rattle.page_model.specs.declared.setup.Setup.{Setup}
 use Rattle.page_model.specs.Colour.{body_colour}
 use Rattle.page_model.specs.Enclosure.{LooseState}
-use Rattle.page_model.specs.LayerAt.{State, state_at}
+use Rattle.page_model.specs.LayerAt.{State}
 use Rattle.page_model.specs.TintOf.{tint_box, tint_ground}
 use Rattle.page_model.specs.ValidScene.{IsValid}
 use Rattle.frame_state.specs.declared.types.LayerState.{LayerState}
-use Rattle.frame_state.specs.States.{AreComputed, AreExact, IsInSlots, known, state_as, states_as}
+use Rattle.frame_state.specs.States.{AreExact, IsInSlots, state_as, states_as}
 use Rattle.frame_state.proofs.ListLemmas.{states_as-there}
-use Rattle.paint_blend.specs.Paint.{AreKnown, AreReady, AreStates, box_over, computed_states, no_state}
+use Rattle.paint_blend.specs.Paint.{AreKnown, AreReady, AreStates, box_over}
 
 some_there : {X : Type 0} (o : Option X) → is_some o ≡ true → (x : X) × (o ≡ Some x)
 some_there None e = absurd (cc)
@@ -66,15 +66,7 @@ box-more scene states x y i d before next valid same within is painted =
     ∙ ap (λ (tint : Tint). tint_box (states_as states) x y tint number) is
     ∙ sym (fold_more (tint_box (states_as states) x y) (tint_ground scene (states_as states)) scene.order i 0 within)
 
--- the states that are computed are known ones, and so are the exact ones
-pub computed-known : (scene : Scene) (setup : Setup) (frame : ℕ) (loose : ℕ → LooseState) → AreComputed scene setup frame loose
-    → AreKnown scene loose (computed_states scene setup frame)
-computed-known scene setup frame loose computed number within =
-    elim (slice_get_cases scene.layers number).1 [
-      | inl found ↦ computed number found.0 found.2 ∙ sym (ap (λ o. known (unwrap_or (option_map (state_at scene setup frame) o) no_state)) found.2)
-      | inr past ↦ absurd (let far = past.0 in omega arith)
-    ]
-
+-- the exact states are known ones
 pub exact-known : (scene : Scene) (setup : Setup) (frame : ℕ) (loose : ℕ → LooseState) (states : ℕ → State) → AreExact scene setup frame loose
     → AreStates scene setup frame states → AreKnown scene loose states
 exact-known scene setup frame loose states exact are number within =

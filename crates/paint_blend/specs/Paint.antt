@@ -1,11 +1,11 @@
--- The code's own types as the definitions have them, and which states can be painted.
-use Rattle.std.specs.Prelude.{ℕ, pos, false, Some, ◌≡◌, ◌<◌, length, slice_get, IsSome, option_map, unwrap_or}
+-- The code's own types as the definitions have them, which states can be painted, and which tints have their ends in order.
+use Rattle.std.specs.Prelude.{ℕ, Some, ◌≡◌, ◌<◌, ◌≤◌, length, slice_get, IsSome}
 use Rattle.page_model.specs.declared.colour.Tint.{Tint}
 use Rattle.page_model.specs.declared.scene.Layer.{Layer}
 use Rattle.page_model.specs.declared.scene.Scene.{Scene}
 use Rattle.page_model.specs.declared.setup.Setup.{Setup}
-use Rattle.page_model.specs.Enclosure.{LooseState}
-use Rattle.page_model.specs.LayerAt.{IsStateAt, State, state_at}
+use Rattle.page_model.specs.Enclosure.{IsLooseStateAt, LooseState, wide}
+use Rattle.page_model.specs.LayerAt.{IsStateAt, State}
 use Rattle.page_model.specs.TintOf as definition
 use Rattle.page_model.specs.TintOf.{both, covers_surely, painted_where, span_of, tint_over}
 use Rattle.frame_state.specs.States.{IsInSlots, known}
@@ -33,20 +33,13 @@ abbrev pub AreStates : Scene → Setup → ℕ → (ℕ → State) → Type 0
 AreStates scene setup frame states =
     (number : ℕ) (layer : Layer) → slice_get scene.layers number ≡ Some layer → IsStateAt scene setup frame layer (states number)
 
--- the states that are computed, by number; of a layer that isn't there nothing is shown
-abbrev pub no_state : State
-no_state = record {
-  red = 0;
-  green = 0;
-  blue = 0;
-  cover = 0;
-  alpha = 0;
-  shown = false;
-  left = pos 0;
-  top = pos 0;
-  width = pos 0;
-  height = pos 0;
-}
+-- loose states are those of all layers in a frame by the wide kind
+abbrev pub AreWide : Scene → Setup → ℕ → (ℕ → LooseState) → Type 0
+AreWide scene setup frame states =
+    (number : ℕ) (layer : Layer) → slice_get scene.layers number ≡ Some layer → IsLooseStateAt wide scene setup frame layer (states number)
 
-abbrev pub computed_states : Scene → Setup → ℕ → ℕ → State
-computed_states scene setup frame number = unwrap_or (option_map (state_at scene setup frame) (slice_get scene.layers number)) no_state
+-- in each channel the lower end of a tint is at most the upper one
+pub record IsOrdered (tint : Tint) : Type 0 where
+  pub red : tint.lo.r ≤ tint.hi.r
+  pub green : tint.lo.g ≤ tint.hi.g
+  pub blue : tint.lo.b ≤ tint.hi.b

@@ -4,9 +4,9 @@
 //! `frame_state`, and paints them: the white canvas, the body where it has a colour, and the boxes in paint
 //! order, each blended over what is there in eight bits. [`tint_of`] paints states that are handed in, also
 //! loose ones, and [`tint`] those of a frame. The key clause is that a tint is that of the definitions,
-//! whatever the states are: a hull where a box may or may not be there, and both ends of each blending. By
-//! exact states it is a single colour, the one that they paint; so `tint` gives the pixel's exact colour for
-//! each scene that can be painted so far. No call takes memory.
+//! whatever the states are: a hull where a box may or may not be there, and both ends of each blending. So
+//! `tint` holds the pixel's exact colour, and lies in the tint by states of the wide kind; by exact states a
+//! tint is a single colour, the one that they paint. No call takes memory.
 //!
 //! Which pixels always look alike, and what a change of colour means, is not said here.
 #![tactic(auto)]

@@ -1,13 +1,15 @@
 // The tint of a pixel.
-ghost use Rattle.std.specs.Prelude.{ℕ, ◌≡◌, ◌^◌, ◌<◌, length, is_some};
+ghost use Rattle.std.specs.Prelude.{ℕ, false, ◌≡◌, ◌^◌, ◌<◌, length, is_some};
 ghost use Rattle.page_model.specs.Colour as colours;
 ghost use Rattle.page_model.specs.Enclosure.{LooseState};
 ghost use Rattle.page_model.specs.LayerAt.{State};
 ghost use Rattle.page_model.specs.TintOf as definition;
 ghost use Rattle.page_model.specs.ValidScene.{IsValid};
-ghost use Rattle.frame_state.specs.Scenes.{CanBePainted};
+ghost use Rattle.flash_laws.specs.SureLaws.{IsOf};
+ghost use Rattle.tint_laws.specs.NestLaws.{LiesIn};
+ghost use Rattle.frame_state.specs.Scenes.{CanBePainted, is_cubic};
 ghost use Rattle.frame_state.specs.States.{AreOwn, IsInSlots, state_as, states_as};
-ghost use Rattle.paint_blend.specs.Paint.{AreKnown, AreReady, AreStates, box_over, computed_states, span_as};
+ghost use Rattle.paint_blend.specs.Paint.{AreKnown, AreReady, AreStates, AreWide, IsOrdered, box_over, span_as};
 
 use crate::blending::{blended_span, combined_span, hull, span_of};
 use crate::covering::{both, covers};
@@ -155,7 +157,8 @@ fn ground(scene: &Scene, states: &[LayerState]) -> Tint
 /// channel by channel. The canvas is white, the body is painted on every pixel where it has a colour, whatever
 /// its opacity, and the boxes follow in paint order, each blended in eight bits over what is there, by the
 /// cover of its colour and the alpha of its opacity together; where a box may or may not be shown there, the
-/// tint holds what is there with it and without it. By exact states it is the one colour that they paint.
+/// tint holds what is there with it and without it. Its ends are in order. By exact states it is the one
+/// colour that they paint.
 pub fn tint_of(scene: &Scene, states: &[LayerState], x: u16, y: u16) -> Tint
     requires valid { IsValid scene.now }
     requires states { length states.now ≡ length scene.now.layers }
@@ -163,6 +166,7 @@ pub fn tint_of(scene: &Scene, states: &[LayerState], x: u16, y: u16) -> Tint
     ensures value { result ≡ definition.tint_of scene.now (states_as states.now) x y }
     ensures exact { (known : ℕ → State) → AreKnown scene.now (states_as states.now) known
         → result ≡ definition.single (colours.painted scene.now known x y) }
+    ensures ordered { IsOrdered result }
 {
     let mut tint = ground(scene, states);
     for number in scene.order.as_slice() {
@@ -171,18 +175,25 @@ pub fn tint_of(scene: &Scene, states: &[LayerState], x: u16, y: u16) -> Tint
     tint
 }
 
-/// The tint of a pixel in frame `k`. For a scene that can be painted it is the pixel's exact colour, as both
-/// ends.
+/// The tint of a pixel in frame `k`, by the states of the own kind, whichever they are. It holds the pixel's
+/// exact colour, it lies in the tint by states of the wide kind, and its ends are in order. Where no easing
+/// is a curve it is the exact colour, as both ends.
 pub fn tint(scene: &Scene, setup: &Setup, k: u64, x: u16, y: u16) -> Tint
     requires valid { IsValid scene.now }
     requires painted { CanBePainted scene.now }
     requires frame { k < 2 ^ 32 }
     ensures own { (states : ℕ → LooseState) × AreOwn scene.now setup.now k states
         × (result ≡ definition.tint_of scene.now states x y) }
-    ensures computed { result ≡ definition.single
-        (colours.painted scene.now (computed_states scene.now setup.now k) x y) }
-    ensures exact { (states : ℕ → State) → AreStates scene.now setup.now k states
+    ensures only { (states : ℕ → LooseState) → AreOwn scene.now setup.now k states
+        → result ≡ definition.tint_of scene.now states x y }
+    ensures exact { is_cubic scene.now ≡ false → (states : ℕ → State)
+        → AreStates scene.now setup.now k states
         → result ≡ definition.single (colours.painted scene.now states x y) }
+    ensures holds { (states : ℕ → State) → AreStates scene.now setup.now k states
+        → IsOf result (colours.painted scene.now states x y) }
+    ensures wide { (states : ℕ → LooseState) → AreWide scene.now setup.now k states
+        → LiesIn (definition.tint_of scene.now states x y) result }
+    ensures ordered { IsOrdered result }
 {
     let mut all = [NOTHING; MOST_LAYERS];
     let states = &mut all[..scene.layers.len()];

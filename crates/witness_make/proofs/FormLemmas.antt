@@ -1,21 +1,20 @@
--- What is made is in form: its numbers fit their types, and each of its tints is one colour.
+-- What is made is in form: its numbers fit their types, and each of its tints has its ends in order.
 use Rattle.std.proofs.Common.{◌≡◌, ◌∙◌, ℕ, ◌+◌, ◌<◌, ◌≤◌, FitsSigned, length, get_or, ap, arith, inl, inr, subst, sym}
 use Rattle.std.specs.Prelude.{All, ℤ, pos, negsuc, ◌≤ℤ◌, sum_by}
 use Rattle.std.specs.Int.{w32}
 use Rattle.std.proofs.lemmas.Int.{ints}
 use Rattle.std.proofs.lemmas.Option.{get_or_from_slice_get, slice_get-get_or}
-use Rattle.page_model.specs.declared.colour.Rgb.{Rgb}
 use Rattle.page_model.specs.declared.colour.Tint.{Tint}
 use Rattle.page_model.specs.declared.scene.Scene.{Scene}
 use Rattle.page_model.specs.declared.setup.Setup.{Setup}
 use Rattle.page_model.specs.declared.witness.Part.{Part}
 use Rattle.page_model.specs.declared.witness.Witness.{Witness}
 use Rattle.page_model.specs.Cells.{cells_between}
-use Rattle.page_model.specs.Change.{IsSingle}
 use Rattle.page_model.specs.Time.{window_of}
 use Rattle.page_model.specs.Viewing.{IsRate}
 use Rattle.wide_laws.specs.PaintLaws.{IsPixel}
 use Rattle.page_model.specs.WitnessConditions.{HasSetup}
+use Rattle.paint_blend.specs.Paint.{IsOrdered}
 use Rattle.region_split.specs.declared.types.Rect.{Rect}
 use Rattle.region_split.specs.Cutting.{Edges, cell_of}
 use Rattle.sweep.proofs.SideLemmas.{AreSides}
@@ -26,19 +25,16 @@ use Rattle.witness_make.specs.Made.{AreCutsOf, IsPartOf}
 use Rattle.witness_make.specs.Turns.{no_tint}
 use Rattle.witness_text.specs.WitnessForm.{IsInForm, IsPartInForm, IsTintInForm, IsToldRate, word_limit}
 
--- a tint of one colour is in form
-single-form : (tint : Tint) → IsSingle tint → IsPixel tint.hi → IsTintInForm tint
-single-form tint single fits =
-    let red : tint.lo.r ≡ tint.hi.r = ap (λ (c : Rgb). c.r) single in
-    let green : tint.lo.g ≡ tint.hi.g = ap (λ (c : Rgb). c.g) single in
-    let blue : tint.lo.b ≡ tint.hi.b = ap (λ (c : Rgb). c.b) single in
-    let high_red = fits.red in
-    let high_green = fits.green in
-    let high_blue = fits.blue in
+-- a tint with its ends in order is in form
+ordered-form : (tint : Tint) → IsOrdered tint → IsPixel tint.hi → IsTintInForm tint
+ordered-form tint ordered fits =
+    let red = fits.red in
+    let green = fits.green in
+    let blue = fits.blue in
     record {
-      red = record { ordered = omega (arith, red); fit = omega (arith, high_red) };
-      green = record { ordered = omega (arith, green); fit = omega (arith, high_green) };
-      blue = record { ordered = omega (arith, blue); fit = omega (arith, high_blue) };
+      red = record { ordered = ordered.red; fit = omega (arith, red) };
+      green = record { ordered = ordered.green; fit = omega (arith, green) };
+      blue = record { ordered = ordered.blue; fit = omega (arith, blue) };
     }
 
 -- and each tint of a part is one
@@ -52,12 +48,11 @@ tints-form scene setup start x y cell part of k d below =
     let place : ℕ = get_or told.trace.places k 0 in
     let place_below : place < length told.tints = place-within told.tints told.trace k (omega (arith, whole)) told.first turn in
     let same : get_or part.tints k no_tint ≡ get_or told.tints place no_tint = told.tells.turns.tints_are k turn in
-    let single : IsSingle (get_or part.tints k no_tint) =
-    subst (λ (t : Tint). IsSingle t) (sym same) (told.own_tints place place_below).is_single in
+    let ordered : IsOrdered (get_or part.tints k no_tint) = subst IsOrdered (sym same) (told.own_tints place place_below).ordered in
     let fits : IsPixel (get_or part.tints k no_tint).hi = of.bytes k no_tint below in
     let here : get_or part.tints k no_tint ≡ get_or part.tints k d =
     get_or_from_slice_get part.tints k (get_or part.tints k d) no_tint (slice_get-get_or part.tints k d below) in
-    subst (λ (t : Tint). IsTintInForm t) here (single-form (get_or part.tints k no_tint) single fits)
+    subst (λ (t : Tint). IsTintInForm t) here (ordered-form (get_or part.tints k no_tint) ordered fits)
 
 -- its frames lie in the window, whose frames can be counted
 frames-form : (scene : Scene) (setup : Setup) (edges : Edges) (start : ℕ) (x y : ℤ) (cell : Rect) (part : Part) → AreCutsOf scene setup start edges

@@ -2,9 +2,8 @@
 use Rattle.std.proofs.Common.{◌+◌, ap, rules, sym}
 use Rattle.std.proofs.lemmas.Option.{slice_get_within}
 use Rattle.frame_state.specs.States.{states_as}
-use Rattle.paint_blend.specs.Paint.{computed_states}
 use Rattle.region_split.specs.declared.types.Rect.{Rect}
-use Rattle.cell_tints.proofs.TintLemmas.{computed-known, own-tint, tints-more}
+use Rattle.cell_tints.proofs.TintLemmas.{own-tint, tints-more}
 use Rattle.cell_tints.proofs.tints.add_frame.Goals as goal
 
 pub tint_of-requires-clause-ready : goal.tint_of-requires-clause-ready
@@ -13,12 +12,10 @@ tint_of-requires-clause-ready c number layer is coloured =
 
 pub loop-i-preserved : goal.loop-i-preserved
 loop-i-preserved c =
-    let states = states_as c.states_at.new.out in
-    let one = c.tint_of.ensures.exact (computed_states c.args.scene.now c.args.setup.now c.from-frame.result)
-    (computed-known c.args.scene.now c.args.setup.now c.from-frame.result states c.states_at.ensures.computed) in
     tints-more c.args.scene.now c.args.setup.now c.args.cuts.now c.args.start c.args.k c.loop-i.i c.cell-cell.result.x c.cell-cell.result.y
     c.loop-i.tints.items c.push.new.self.items c.tint_of.result c.loop-i.invariant (search rules)
     (search rules)
     (sym (ap (λ (r : Rect). r.x) c.cell-cell.ensures)) (sym (ap (λ (r : Rect). r.y) c.cell-cell.ensures))
     (own-tint c.args.scene.now c.args.setup.now (c.args.start + c.args.k) c.from-frame.result c.cell-cell.result.x c.cell-cell.result.y
-    c.tint_of.result _ c.from-frame.ensures (states, c.states_at.ensures.own, c.tint_of.ensures.value) one)
+    c.tint_of.result c.from-frame.ensures (states_as c.states_at.new.out, c.states_at.ensures.own, c.tint_of.ensures.value)
+    c.tint_of.ensures.ordered)

@@ -1,10 +1,12 @@
 -- The boxes are there and ready; one more is painted; and known states paint one colour.
-use Rattle.std.proofs.Common.{ℕ, List, ◌≡◌, ◌<◌, ◌∙◌, ap, length, take, arith}
+use Rattle.std.proofs.Common.{ℕ, List, ◌≡◌, ◌<◌, ◌∙◌, ap, length, take, arith, subst, sym}
 use Rattle.std.specs.Prelude.{fold}
 use Rattle.std.proofs.lemmas.List.{take_all}
 use Rattle.page_model.specs.TintOf.{tint_box, tint_ground}
 use Rattle.frame_state.specs.States.{states_as}
+use Rattle.paint_blend.specs.Paint.{IsOrdered}
 use Rattle.paint_blend.proofs.ExactLemmas.{tint_of-known}
+use Rattle.paint_blend.proofs.OrderLemmas.{tint_of-ordered}
 use Rattle.paint_blend.proofs.ReadyLemmas.{box-inside, box-more, box-ready}
 use Rattle.paint_blend.proofs.painting.tint_of.Goals as goal
 
@@ -36,3 +38,13 @@ returns-clause-exact c known are =
     c.loop-number.invariant
     ∙ ap (λ (order : List ℕ). fold (tint_box (states_as c.args.states.now) c.args.x c.args.y) (tint_ground c.args.scene.now (states_as c.args.states.now)) order) all
     ∙ tint_of-known c.args.scene.now (states_as c.args.states.now) known c.args.x c.args.y c.requires.valid are
+
+pub returns-clause-ordered : goal.returns-clause-ordered
+returns-clause-ordered c =
+    let items = c.as_slice-number-items.ensures in
+    let all : take c.loop-number.number-index c.args.scene.now.order ≡ c.args.scene.now.order =
+    take_all c.loop-number.number-index c.args.scene.now.order (omega (arith, ap length items)) in
+    subst IsOrdered
+    (sym (c.loop-number.invariant
+    ∙ ap (λ (order : List ℕ). fold (tint_box (states_as c.args.states.now) c.args.x c.args.y) (tint_ground c.args.scene.now (states_as c.args.states.now)) order) all))
+    (tint_of-ordered c.args.scene.now (states_as c.args.states.now) c.args.x c.args.y)
