@@ -7,4 +7,3 @@ pub mod ListLemmas
 pub mod MarkLemmas
 pub mod RisingLemmas
 pub mod StillLemmas
-pub mod WideLemmas
