@@ -15,6 +15,7 @@
 mod cuts;
 mod listing;
 mod marks;
+mod moving;
 mod types;
 
 pub use cuts::Cuts;
