@@ -1,5 +1,5 @@
 -- The place of an input on a curve, found by halving, and what products of its point's numbers come to.
-use Rattle.std.proofs.Common.{◌≡◌, ℕ, suc, ◌+◌, ◌-◌, ◌*◌, ◌/◌, ◌^◌, ◌<◌, ◌≤◌, ℤ, pos, ◌+ℤ◌, ◌-ℤ◌, ◌*ℤ◌, refl, ap, ◌∙◌, sym, arith, le-leb, leb-true, le-div_iff_mul-le}
+use Rattle.std.proofs.Common.{◌≡◌, ℕ, suc, ◌+◌, ◌-◌, ◌*◌, ◌/◌, ◌^◌, ◌<◌, ◌≤◌, ℤ, pos, neg_ℤ, ◌+ℤ◌, ◌-ℤ◌, ◌*ℤ◌, refl, ap, ◌∙◌, sym, subst, arith, le-leb, leb-true, le-div_iff_mul-le}
 use Rattle.std.specs.Int.{int_div_euclid}
 use Rattle.std.proofs.lemmas.Int.{ints}
 use Rattle.std.proofs.lemmas.Nat.{mul-le}
@@ -7,11 +7,12 @@ use Rattle.std.proofs.Math.Nat.{pow-suc}
 use Rattle.page_model.specs.Curve.{column_at, height_at, point_of}
 use Rattle.page_model.specs.Enclosure.{own_scale, own_height}
 use Rattle.page_model.specs.Fraction.{Fraction}
-use Rattle.page_model.specs.ValidScene.{IsCurve}
+use Rattle.page_model.specs.ValidScene.{IsBetween, IsCurve}
 use Rattle.fix_span.specs.declared.span.Span.{Span}
 use Rattle.curve_laws.proofs.CurveHeights.{height_is}
 use Rattle.curve_laws.proofs.CurvePoints.{point_of-is}
 use Rattle.curve_laws.proofs.EnclosureLemmas.{intervals_nest, ends_are_near}
+use Rattle.easing_bounds.specs.Value.{AreModest}
 use Rattle.easing_bounds.specs.Within.{AreNear, HoldsCurve, LiesOn, own_span, own_unit, raise}
 
 -- the inner factor of a cubic, and the whole
@@ -90,6 +91,17 @@ parts-are x1 y1 x2 y2 at place h parts e f g =
 pub span-is : (x1 : ℕ) (y1 : ℤ) (x2 : ℕ) (y2 : ℤ) (at : Fraction) (parts lo hi : ℤ) → parts ≡ own_height x1 y1 x2 y2 at
     → lo ≡ parts -ℤ pos 6144 → hi ≡ parts +ℤ pos 6145 → ◌≡◌ {A = Span 30} (record { lo = lo; hi = hi }) (own_span x1 y1 x2 y2 at)
 span-is x1 y1 x2 y2 at parts lo hi e first second = rw (first, second, e) refl
+
+-- its ends aren't far from 0
+pub own-modest : (x1 : ℕ) (y1 : ℤ) (x2 : ℕ) (y2 : ℤ) (at : Fraction) (parts : ℤ) → parts ≡ own_height x1 y1 x2 y2 at
+    → IsBetween (neg_ℤ (pos (2 ^ 40))) (pos (2 ^ 40)) parts → AreModest (own_span x1 y1 x2 y2 at)
+own-modest x1 y1 x2 y2 at parts e range =
+    let low = range.at_least in
+    let high = range.at_most in
+    subst (λ (z : ℤ). AreModest (record { lo = z -ℤ pos 6144; hi = z +ℤ pos 6145 })) e (record {
+      lo = record { at_least = omega (arith, ints, low); at_most = omega (arith, ints, high) };
+      hi = record { at_least = omega (arith, ints, low); at_most = omega (arith, ints, high) };
+    })
 
 pub holds-own : (x1 : ℕ) (y1 : ℤ) (x2 : ℕ) (y2 : ℤ) → IsCurve x1 y1 x2 y2 → (at : Fraction) → HoldsCurve x1 y1 x2 y2 at (own_span x1 y1 x2 y2 at)
 holds-own x1 y1 x2 y2 curve at = record {

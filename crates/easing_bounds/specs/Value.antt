@@ -1,11 +1,12 @@
 -- What is told of an eased value: the fraction that it is, where it is one, or else the ends between which a curve's value
 -- lies.
-use Rattle.std.specs.Prelude.{ℕ, ℤ, Bool, true, false, ◌↔◌, if◌then◌else◌}
+use Rattle.std.specs.Prelude.{ℕ, ℤ, pos, neg_ℤ, ◌^◌, Bool, true, false, ◌↔◌, if◌then◌else◌}
 use Rattle.page_model.specs.declared.easing.Easing.{Easing}
 use Rattle.page_model.specs.declared.easing.Easing.TheVariants.{Linear, Steps, Cubic}
 use Rattle.page_model.specs.Curve.{FractionReaches, Reaches, stepped}
 use Rattle.page_model.specs.Enclosure.{is_inner}
 use Rattle.page_model.specs.Fraction.{Fraction}
+use Rattle.page_model.specs.ValidScene.{IsBetween}
 use Rattle.fix_span.specs.declared.frac.Frac.{Frac}
 use Rattle.fix_span.specs.declared.span.Span.{Span}
 use Rattle.fix_span.specs.Frac.{frac_of, fraction_of}
@@ -37,6 +38,16 @@ IsExact (Within span) = ⊥
 abbrev pub IfExact : (Frac → Type 0) → Eased → Type 0
 IfExact P (Exact y) = P y
 IfExact P (Within span) = Unit {0}
+
+-- a fact holds of the two ends, where it is a curve's
+abbrev pub IfWithin : (Span 30 → Type 0) → Eased → Type 0
+IfWithin P (Exact y) = Unit {0}
+IfWithin P (Within span) = P span
+
+-- both ends are from -2^41 to 2^41: a curve's value isn't far from 0
+pub record AreModest (span : Span 30) : Type 0 where
+  pub lo : IsBetween (neg_ℤ (pos (2 ^ 41))) (pos (2 ^ 41)) span.lo
+  pub hi : IsBetween (neg_ℤ (pos (2 ^ 41))) (pos (2 ^ 41)) span.hi
 
 -- the eased value lies between two ends, each of which is near to it: it is a curve's
 abbrev pub LiesWithin : Easing → Fraction → Span 30 → Type 0

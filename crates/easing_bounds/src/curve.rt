@@ -9,6 +9,7 @@ ghost use Rattle.page_model.specs.Enclosure.{own_scale, own_height};
 ghost use Rattle.page_model.specs.Fraction.{IsInner};
 ghost use Rattle.page_model.specs.ValidScene.{IsBetween, IsCurve};
 ghost use Rattle.fix_span.specs.Frac.{fraction_of, IsShare};
+ghost use Rattle.easing_bounds.specs.Value.{AreModest};
 ghost use Rattle.easing_bounds.specs.Within.{AreNear, HoldsCurve, LiesOn, own_unit, own_span, raise};
 
 use fix_span::{Frac, Span};
@@ -35,6 +36,7 @@ pub fn within(x1: u16, y1: i16, x2: u16, y2: i16, x: Frac) -> Span<30>
     ensures ends { result ≡ own_span x1 y1 x2 y2 (fraction_of x) }
     ensures holds { HoldsCurve x1 y1 x2 y2 (fraction_of x) result }
     ensures near { AreNear x1 y1 x2 y2 (fraction_of x) result }
+    ensures modest { AreModest result }
 {
     let place = point(x1, x2, x);
     let parts = rounded_down(height(y1, y2, place));

@@ -4,7 +4,7 @@ ghost use Rattle.page_model.specs.declared.easing.Easing.TheVariants.{Cubic};
 ghost use Rattle.page_model.specs.Enclosure as enclosure;
 ghost use Rattle.page_model.specs.ValidScene.{IsCurve, IsEasing};
 ghost use Rattle.fix_span.specs.Frac.{fraction_of, IsShare};
-ghost use Rattle.easing_bounds.specs.Value.{curve_value, eased_value, is_cubic, IfExact, IsExact, IsTold};
+ghost use Rattle.easing_bounds.specs.Value.{curve_value, eased_value, is_cubic, AreModest, IfExact, IfWithin, IsExact, IsTold};
 
 use crate::curve::within;
 use crate::steps::stepped;
@@ -25,6 +25,7 @@ pub fn eased(easing: &Easing, x: Frac) -> Eased
     ensures exact { is_cubic easing.now ≡ false → IsExact result }
     ensures share { IfExact IsShare result }
     ensures denominator { IfExact (λ y. y.den ≤ℤ pos (2 ^ 48)) result }
+    ensures modest { IfWithin AreModest result }
 {
     match *easing {
         Easing::Linear => Eased::Exact(x),
@@ -42,6 +43,7 @@ fn curved(x1: u16, y1: i16, x2: u16, y2: i16, x: Frac) -> Eased
     ensures told { IsTold (Cubic x1 y1 x2 y2) (fraction_of x) result }
     ensures share { IfExact IsShare result }
     ensures denominator { IfExact (λ y. y.den ≤ℤ pos (2 ^ 48)) result }
+    ensures modest { IfWithin AreModest result }
 {
     if is_inner(x) {
         Eased::Within(within(x1, y1, x2, y2, x))

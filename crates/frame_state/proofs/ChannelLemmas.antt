@@ -1,274 +1,246 @@
--- A channel on its way: what is computed fits, and is the definition's; and where the easing is no curve, each kind knows it.
-use Rattle.std.proofs.Common.{ℕ, zero, suc, ℤ, pos, negsuc, Bool, true, false, ◌≡◌, ◌+◌, ◌-◌, ◌*◌, ◌^◌, ◌<◌, ◌≤◌, ◌+ℤ◌, ◌-ℤ◌, ◌*ℤ◌, ◌≤ℤ◌, ◌<ℤ◌, FitsSigned, int_le, if◌then◌else◌, min, arith, ap, ◌∙◌, refl, sym, subst}
-use Rattle.std.specs.Int.{int_div_euclid, w32, w128}
+-- The loose value of a channel between two ends, as the own kind knows it.
+use Rattle.std.proofs.Common.{◌≡◌, ◌↔◌, ◌∙◌, ℕ, ◌*◌, ◌<◌, ℤ, pos, negsuc, neg_ℤ, ◌+ℤ◌, ◌-ℤ◌, ◌*ℤ◌, ◌≤ℤ◌, ◌<ℤ◌, int_le, min, Bool, true, false, arith, refl, sym, ap, subst, inl, inr}
+use Rattle.std.specs.Int.{int_min, int_max}
+use Rattle.std.proofs.lemmas.Bool.{cases_Bool}
 use Rattle.std.proofs.lemmas.Int.{ints, clamps}
 use Rattle.std.proofs.Math.IntN.{*ℤ_comm}
-use Rattle.std.proofs.Math.Nat.{mul-le-mul}
 use Rattle.page_model.specs.declared.easing.Easing.{Easing}
-use Rattle.page_model.specs.declared.easing.Easing.TheVariants.{Linear, Steps, Cubic}
-use Rattle.page_model.specs.declared.property.Value.{Value}
-use Rattle.page_model.specs.Curve.{eased}
-use Rattle.page_model.specs.Enclosure.{IsLooseChannel, IsLooseChannelOn, Kind, one_value}
+use Rattle.page_model.specs.Enclosure.{AllReach, AreLevels, IsLooseChannel, SomeReach, one_value, own}
 use Rattle.page_model.specs.Fraction.{Fraction}
-use Rattle.page_model.specs.LayerAt.{Course, still, moving, IsChannelOn, channel_on}
-use Rattle.page_model.specs.Progress.{above_zero}
-use Rattle.page_model.specs.Slot.{Shade, IsChannelValue, between, channel_value, held_level, over_alpha, own_level, premultiplied}
-use Rattle.fix_span.specs.declared.frac.Frac.{Frac}
-use Rattle.fix_span.specs.Frac.{CanRound, Fits, IsShare, frac_of, fraction_of, half_up}
-use Rattle.fix_span.specs.IntLaws.{*ℤ_assoc, positive-*ℤ}
-use Rattle.fix_span.specs.Quotient.{quotient}
-use Rattle.fix_span.specs.RoundingLaws.{at_most_floor, floor_above, floor_at_most, rounding_is, twice_less, twice_more}
-use Rattle.safety_laws.specs.ComputedLaws.{IsNoCurve}
-use Rattle.safety_laws.proofs.ChannelLemmas.{apart-times, channel-is}
-use Rattle.state_laws.proofs.UniqueLemmas.{channel-unique}
-use Rattle.easing_bounds.specs.Value.{is_cubic}
+use Rattle.page_model.specs.Slot.{IsGreatestLevel, Shade, due, excess, fading, gain, held_level, over_alpha, premultiplied}
+use Rattle.fix_span.specs.IntLaws.{*ℤ_assoc, add-*ℤ, sub-*ℤ}
+use Rattle.fix_span.specs.RoundingLaws.{twice_less}
 use Rattle.frame_state.specs.States.{IsInSlot, eight_bits}
-use Rattle.frame_state.specs.Ways.{IsPlain, Way, channel_by, level_by, way_of}
-use Rattle.frame_state.proofs.MixLemmas.{few_made, share-natural}
+use Rattle.frame_state.specs.Ways.{End, alpha_at, between, channel_between, channel_left, half_up, is_gone_at, level_at, level_by, loose_of}
+use Rattle.frame_state.proofs.EndLemmas.{AreEnds, EndReaches}
+use Rattle.frame_state.proofs.RoundingLemmas.{at-most-both, at-most-one, div-greatest, each-is, either-is, joined, le-true}
 
--- a product over so much alpha, where the product is at most 255 times as much
-pub record IsOver (product alpha den : ℤ) : Type 0 where
-  pub some : pos 0 <ℤ den
-  pub few : den ≤ℤ pos (2 ^ 48)
-  pub least : pos 0 ≤ℤ product
-  pub most : product ≤ℤ (pos 255 *ℤ alpha)
-  pub limit : alpha ≤ℤ (pos 255000 *ℤ den)
+-- a difference turned round, times a number
+turned : (a b n : ℤ) → (b -ℤ a) *ℤ n ≡ neg_ℤ ((a -ℤ b) *ℤ n)
+turned a b n =
+    let first = sub-*ℤ a b n in
+    let second = sub-*ℤ b a n in
+    omega (arith, ints, first, second)
 
--- its products fit
-product-fits : (product alpha den : ℤ) → IsOver product alpha den → FitsSigned w128 (product *ℤ den)
-product-fits (pos p) (pos a) (pos d) over =
-    let first : p ≤ 255 * (255000 * 2 ^ 48) = omega (arith, ints, over.most, over.limit, over.few) in
-    let second : d ≤ 2 ^ 48 = omega (arith, ints, over.few) in
-    let times = mul-le-mul first second in omega (arith, ints, times)
-product-fits (pos p) (pos a) (negsuc d) over = absurd (omega (arith, ints, over.some))
-product-fits (pos p) (negsuc a) d over = absurd (omega (arith, ints, over.least, over.most))
-product-fits (negsuc p) a d over = absurd (omega (arith, ints, over.least))
-
-parts-fit : (product alpha den : ℤ) → IsOver product alpha den → FitsSigned w128 (den *ℤ alpha)
-parts-fit p (pos a) (pos d) over =
-    let first : a ≤ 255000 * 2 ^ 48 = omega (arith, ints, over.limit, over.few) in
-    let second : d ≤ 2 ^ 48 = omega (arith, ints, over.few) in
-    let times = mul-le-mul second first in omega (arith, ints, times)
-parts-fit p (pos a) (negsuc d) over = absurd (omega (arith, ints, over.some))
-parts-fit (pos p) (negsuc a) d over = absurd (omega (arith, ints, over.least, over.most))
-parts-fit (negsuc p) (negsuc a) d over = absurd (omega (arith, ints, over.least))
-
-pub quotient-fits : (x y : Frac) → x.den ≡ y.den → IsOver x.num y.num y.den → Fits (quotient x y)
-quotient-fits x y same over = record {
-  num = product-fits x.num y.num y.den over;
-  den = rw same (parts-fit x.num y.num y.den over);
-}
-
--- the rounding of the quotient is that of the numerators
-abbrev rounded_over : ℤ → ℤ → ℤ
-rounded_over product alpha = int_div_euclid (pos 2 *ℤ product +ℤ alpha) (pos 2 *ℤ alpha)
-
-rounded-parts : (product : ℤ) (a : ℕ) (den : ℤ) → 0 < a → pos 0 <ℤ den
-    → half_up (record { num = product *ℤ den; den = den *ℤ pos a }) 1 ≡ rounded_over product (pos a)
-rounded-parts product a den some positive =
-    let whole : ℤ = pos 2 *ℤ product +ℤ pos a in
-    let v : ℤ = int_div_euclid whole (pos (2 * a)) in
-    let low = floor_at_most whole (2 * a) (omega arith) in
-    let high = floor_above whole (2 * a) (omega arith) in
-    rounding_is product (product *ℤ den) v (den *ℤ pos a) 1 a (omega arith) some
-    (positive-*ℤ den (pos a) positive (omega (arith, ints)))
-    (sym (*ℤ_assoc product den (pos a)))
-    (rw (one_times a, twice_less v a) (omega (arith, ints, low)))
-    (rw (one_times a, twice_more v a) (omega (arith, ints, high)))
+-- no alpha is left where what is left isn't above 0
+gone-at : (from to : Shade) (x : End) → EndReaches x (fading from to) (pos from.alpha) ↔ (is_gone_at from to x ≡ true)
+gone-at from to x =
+    below (pos from.alpha *ℤ pos x.den) ((pos from.alpha -ℤ pos to.alpha) *ℤ x.num) ((pos to.alpha -ℤ pos from.alpha) *ℤ x.num)
+    (turned (pos from.alpha) (pos to.alpha) x.num)
   where
-    one_times : (a : ℕ) → 1 * a ≡ a
-    one_times a = omega arith
+    below : (p q r : ℤ) → r ≡ neg_ℤ q → (p ≤ℤ q) ↔ (int_le (p +ℤ r) (pos 0) ≡ true)
+    below p q r e = (λ h. le-true (p +ℤ r) (pos 0) (omega (arith, ints, h, e)), λ h. omega (arith, ints, h, e))
 
-rounded-small : (product : ℤ) (a : ℕ) → 0 < a → pos 0 ≤ℤ product → product ≤ℤ (pos 255 *ℤ pos a) → IsInSlot eight_bits (one_value (rounded_over product (pos a)))
-rounded-small product a some least most =
-    let whole : ℤ = pos 2 *ℤ product +ℤ pos a in
-    let v : ℤ = int_div_euclid whole (pos (2 * a)) in
-    let low = floor_at_most whole (2 * a) (omega arith) in
-    let high = floor_above whole (2 * a) (omega arith) in
-    record {
-      at_least = at_most_floor (pos 0) v whole (2 * a) (omega (arith, ints, least)) high;
-      in_order = itself v;
-      at_most = at_most_floor v (pos 255) whole (2 * a) low (omega (arith, ints, most));
-    }
+-- what is linear at both colours is so on the way
+scaled-between : (k a b den num : ℤ) → k *ℤ (a *ℤ den +ℤ (b -ℤ a) *ℤ num) ≡ (k *ℤ a) *ℤ den +ℤ ((k *ℤ b) *ℤ num -ℤ (k *ℤ a) *ℤ num)
+scaled-between k a b den num =
+    let apart : (b -ℤ a) *ℤ num ≡ b *ℤ num -ℤ a *ℤ num = sub-*ℤ b a num in
+    let sum : k *ℤ (a *ℤ den +ℤ (b -ℤ a) *ℤ num) ≡ (a *ℤ den +ℤ (b -ℤ a) *ℤ num) *ℤ k = *ℤ_comm k (a *ℤ den +ℤ (b -ℤ a) *ℤ num) in
+    let spread : (a *ℤ den +ℤ (b -ℤ a) *ℤ num) *ℤ k ≡ (a *ℤ den) *ℤ k +ℤ ((b -ℤ a) *ℤ num) *ℤ k = add-*ℤ (a *ℤ den) ((b -ℤ a) *ℤ num) k in
+    let rest : ((b -ℤ a) *ℤ num) *ℤ k ≡ (b *ℤ num) *ℤ k -ℤ (a *ℤ num) *ℤ k = ap (λ (z : ℤ). z *ℤ k) apart ∙ sub-*ℤ (b *ℤ num) (a *ℤ num) k in
+    let first = regrouped a den in
+    let second = regrouped b num in
+    let third = regrouped a num in
+    sums (k *ℤ (a *ℤ den +ℤ (b -ℤ a) *ℤ num)) ((a *ℤ den +ℤ (b -ℤ a) *ℤ num) *ℤ k) ((a *ℤ den) *ℤ k) (((b -ℤ a) *ℤ num) *ℤ k)
+    ((b *ℤ num) *ℤ k) ((a *ℤ num) *ℤ k) ((k *ℤ a) *ℤ den) ((k *ℤ b) *ℤ num) ((k *ℤ a) *ℤ num) sum spread rest first second third
   where
-    itself : (v : ℤ) → v ≤ℤ v
-    itself v = omega (arith, ints)
+    regrouped : (z n : ℤ) → (z *ℤ n) *ℤ k ≡ (k *ℤ z) *ℤ n
+    regrouped z n = *ℤ_comm (z *ℤ n) k ∙ sym (*ℤ_assoc k z n)
 
-pub quotient-rounds : (x y : Frac) → x.den ≡ y.den → IsOver x.num y.num y.den → pos 0 <ℤ y.num
-    → half_up (quotient x y) 1 ≡ rounded_over x.num y.num
-quotient-rounds x y same over above =
-    rw same (by_cases x.num y.num y.den over.some above)
+    sums : (w t p q r s x y z : ℤ) → w ≡ t → t ≡ p +ℤ q → q ≡ r -ℤ s → p ≡ x → r ≡ y → s ≡ z → w ≡ x +ℤ (y -ℤ z)
+    sums w t p q r s x y z e f g h i j = omega (arith, ints, e, f, g, h, i, j)
+
+-- twice the product less so many times the alpha, on the way between what these are at the colours
+excess-between : (p q a b k den num : ℤ)
+    → (pos 2 *ℤ p -ℤ k *ℤ a) *ℤ den +ℤ ((pos 2 *ℤ q -ℤ k *ℤ b) -ℤ (pos 2 *ℤ p -ℤ k *ℤ a)) *ℤ num
+    ≡ pos 2 *ℤ (p *ℤ den +ℤ (q -ℤ p) *ℤ num) -ℤ k *ℤ (a *ℤ den +ℤ (b -ℤ a) *ℤ num)
+excess-between p q a b k den num =
+    let own = sub-*ℤ (pos 2 *ℤ p) (k *ℤ a) den in
+    let more = sub-*ℤ (pos 2 *ℤ q -ℤ k *ℤ b) (pos 2 *ℤ p -ℤ k *ℤ a) num in
+    let high = sub-*ℤ (pos 2 *ℤ q) (k *ℤ b) num in
+    let low = sub-*ℤ (pos 2 *ℤ p) (k *ℤ a) num in
+    let twice = scaled-between (pos 2) p q den num in
+    let times = scaled-between k a b den num in
+    sums ((pos 2 *ℤ p -ℤ k *ℤ a) *ℤ den) (((pos 2 *ℤ q -ℤ k *ℤ b) -ℤ (pos 2 *ℤ p -ℤ k *ℤ a)) *ℤ num) ((pos 2 *ℤ q -ℤ k *ℤ b) *ℤ num)
+    ((pos 2 *ℤ p -ℤ k *ℤ a) *ℤ num) ((pos 2 *ℤ p) *ℤ den) ((k *ℤ a) *ℤ den) ((pos 2 *ℤ q) *ℤ num) ((k *ℤ b) *ℤ num) ((pos 2 *ℤ p) *ℤ num)
+    ((k *ℤ a) *ℤ num) (pos 2 *ℤ (p *ℤ den +ℤ (q -ℤ p) *ℤ num)) (k *ℤ (a *ℤ den +ℤ (b -ℤ a) *ℤ num)) own more high low twice times
   where
-    by_cases : (product alpha den : ℤ) → pos 0 <ℤ den → pos 0 <ℤ alpha
-        → half_up (record { num = product *ℤ den; den = den *ℤ alpha }) 1 ≡ rounded_over product alpha
-    by_cases product (pos a) den some above = rounded-parts product a den (omega (arith, ints)) some
-    by_cases product (negsuc a) den some above = absurd (omega (arith, ints))
+    sums : (u v w x p1 a1 q2 b2 p2 a2 t s : ℤ) → u ≡ p1 -ℤ a1 → v ≡ w -ℤ x → w ≡ q2 -ℤ b2 → x ≡ p2 -ℤ a2 → t ≡ p1 +ℤ (q2 -ℤ p2)
+        → s ≡ a1 +ℤ (b2 -ℤ a2) → u +ℤ v ≡ t -ℤ s
+    sums u v w x p1 a1 q2 b2 p2 a2 t s e f g h i j = omega (arith, ints, e, f, g, h, i, j)
 
-pub quotient-small : (product alpha den : ℤ) → IsOver product alpha den → pos 0 <ℤ alpha → IsInSlot eight_bits (one_value (rounded_over product alpha))
-quotient-small product (pos a) den over above = rounded-small product a (omega (arith, ints)) over.least over.most
-quotient-small product (negsuc a) den over above = absurd (omega (arith, ints))
+-- an end is at a level or above it exactly where what is left is
+excess-reaches : (f t den num : ℤ) → ((neg_ℤ f *ℤ den) ≤ℤ ((t -ℤ f) *ℤ num)) ↔ (pos 0 ≤ℤ (f *ℤ den +ℤ (t -ℤ f) *ℤ num))
+excess-reaches f t den num = by-parts (f *ℤ den) (neg_ℤ f *ℤ den) ((t -ℤ f) *ℤ num) negated
+  where
+    whole : neg_ℤ f ≡ pos 0 -ℤ f
+    whole = omega (arith, ints)
 
-pub quotient-can_round : (x y : Frac) → x.den ≡ y.den → IsOver x.num y.num y.den → pos 0 <ℤ y.num → CanRound (quotient x y) 1
-quotient-can_round x y same over above = record {
-  positive = rw same (positive-*ℤ y.den y.num over.some above);
-  some_unit = omega arith;
-  fits =
-      let small = quotient-small x.num y.num y.den over above in
-      rw (quotient-rounds x y same over above) (byte-fits (rounded_over x.num y.num) small.at_least small.at_most);
+    none : pos 0 *ℤ den ≡ pos 0
+    none = omega (arith, ints)
+
+    negated : neg_ℤ f *ℤ den ≡ pos 0 -ℤ f *ℤ den
+    negated = ap (λ (z : ℤ). z *ℤ den) whole ∙ sub-*ℤ (pos 0) f den ∙ ap (λ (z : ℤ). z -ℤ f *ℤ den) none
+
+    by-parts : (p n m : ℤ) → n ≡ pos 0 -ℤ p → (n ≤ℤ m) ↔ (pos 0 ≤ℤ (p +ℤ m))
+    by-parts p n m e = (λ h. omega (arith, ints, h, e), λ h. omega (arith, ints, h, e))
+
+-- so it is where the level is at most the product over the alpha, rounded half up
+over-greatest : (p : ℤ) (n : ℕ) (v : ℤ) → 0 < n → (pos 0 ≤ℤ (pos 2 *ℤ p -ℤ (pos 2 *ℤ v -ℤ pos 1) *ℤ pos n)) ↔ (v ≤ℤ half_up p (pos n))
+over-greatest p n v some =
+    let less = twice_less v n in
+    let quotient = div-greatest (pos 2 *ℤ p +ℤ pos n) v (2 * n) (omega arith) in (
+      λ h. quotient.0 (there (v *ℤ pos (2 * n)) ((pos 2 *ℤ v -ℤ pos 1) *ℤ pos n) less h),
+      λ h. back (v *ℤ pos (2 * n)) ((pos 2 *ℤ v -ℤ pos 1) *ℤ pos n) less (quotient.1 h),
+    )
+  where
+    there : (w k : ℤ) → k ≡ w -ℤ pos n → pos 0 ≤ℤ (pos 2 *ℤ p -ℤ k) → w ≤ℤ (pos 2 *ℤ p +ℤ pos n)
+    there w k e h = omega (arith, ints, e, h)
+
+    back : (w k : ℤ) → k ≡ w -ℤ pos n → w ≤ℤ (pos 2 *ℤ p +ℤ pos n) → pos 0 ≤ℤ (pos 2 *ℤ p -ℤ k)
+    back w k e h = omega (arith, ints, e, h)
+
+over-level : (p a v : ℤ) → int_le a (pos 0) ≡ false → (pos 0 ≤ℤ (pos 2 *ℤ p -ℤ (pos 2 *ℤ v -ℤ pos 1) *ℤ a)) ↔ (v ≤ℤ half_up p a)
+over-level p (pos n) v left = over-greatest p n v (omega (arith, ints, left))
+over-level p (negsuc n) v left = absurd (omega (arith, ints, left))
+
+abbrev product_at : Shade → Shade → End → ℤ
+product_at from to x = between (pos (premultiplied from)) (pos (premultiplied to)) x
+
+level-reached : (from to : Shade) (x : End) (v : ℤ) → is_gone_at from to x ≡ false
+    → EndReaches x (gain from to v) (due from v) ↔ (v ≤ℤ half_up (product_at from to x) (alpha_at from to x))
+level-reached from to x v left =
+    let k : ℤ = pos 2 *ℤ v -ℤ pos 1 in
+    let p : ℤ = pos (premultiplied from) in
+    let q : ℤ = pos (premultiplied to) in
+    let is = excess-between p q (pos from.alpha) (pos to.alpha) k (pos x.den) x.num in
+    joined (excess-reaches (excess v from) (excess v to) (pos x.den) x.num)
+    (joined (rewritten (excess v from *ℤ pos x.den +ℤ (excess v to -ℤ excess v from) *ℤ x.num)
+    (pos 2 *ℤ product_at from to x -ℤ k *ℤ alpha_at from to x) is)
+    (over-level (product_at from to x) (alpha_at from to x) v left))
+  where
+    rewritten : (m n : ℤ) → m ≡ n → (pos 0 ≤ℤ m) ↔ (pos 0 ≤ℤ n)
+    rewritten m n e = (λ h. rw e at h, λ h. rw e h)
+
+-- a number from 0 to 255 is the greatest of those up to another
+level-greatest : (Holds : ℤ → Type 0) (r : ℤ) → ((v : ℤ) → Holds v ↔ (v ≤ℤ r)) → IsGreatestLevel Holds (held_level r)
+level-greatest Holds r same = record {
+  at_least = omega (arith, ints, clamps);
+  at_most = omega (arith, ints, clamps);
+  reached = λ above. (same (held_level r)).1 (below above);
+  greatest = λ w more most holds. past w more most ((same w).0 holds);
 } where
-  byte-fits : (v : ℤ) → pos 0 ≤ℤ v → v ≤ℤ pos 255 → FitsSigned w32 v
-  byte-fits v low high = omega (arith, ints)
+  below : pos 0 <ℤ held_level r → held_level r ≤ℤ r
+  below h = omega (arith, ints, clamps)
 
--- the definition's value, where there is some alpha and where there is none
-pub over-some : (product alpha : ℤ) → pos 0 <ℤ alpha → over_alpha product alpha ≡ held_level (rounded_over product alpha)
-over-some product alpha above =
-    let e : false ≡ int_le alpha (pos 0) = omega (arith, ints) in rw (sym e) refl
+  past : (w : ℤ) → held_level r <ℤ w → w ≤ℤ pos 255 → w ≤ℤ r → ⊥
+  past w h k l = omega (arith, ints, clamps)
 
-pub over-none : (product alpha : ℤ) → alpha ≤ℤ pos 0 → over_alpha product alpha ≡ pos 0
-over-none product alpha below =
-    let e : true ≡ int_le alpha (pos 0) = omega (arith, ints) in rw (sym e) refl
+held-least : (r s : ℤ) → held_level (int_min r s) ≡ int_min (held_level r) (held_level s)
+held-least r s = omega (arith, ints, clamps)
 
--- a number on the way, by parts that aren't negative
-between-parts : (a b n r : ℕ) → pos a *ℤ pos (n + r) +ℤ (pos b -ℤ pos a) *ℤ pos n ≡ pos (a * r + b * n)
-between-parts a b n r = let e = apart-times b a n in omega (arith, ints, e)
+held-most : (r s : ℤ) → held_level (int_max r s) ≡ int_max (held_level r) (held_level s)
+held-most r s = omega (arith, ints, clamps)
 
-defined-parts : (a b n r : ℕ) → between a b (record { num = n; den = n + r }) ≡ pos (a * r + b * n)
-defined-parts a b n r = omega (arith, ints)
+-- the level where the alpha isn't gone
+level-left : (from to : Shade) (x : End) → is_gone_at from to x ≡ false
+    → level_at from to x ≡ held_level (half_up (product_at from to x) (alpha_at from to x))
+level-left from to x left = rw left refl
 
-parts-is : (a b : ℕ) (y : Fraction) → pos a *ℤ pos y.den +ℤ (pos b -ℤ pos a) *ℤ pos y.num ≡ between a b y
-parts-is a b y = let e = apart-times b a y.num in omega (arith, ints, e)
+levels-are : (easing : Easing) (at : Fraction) (from to : Shade) (least greatest : End) → AreEnds easing at least greatest
+    → is_gone_at from to least ≡ false → is_gone_at from to greatest ≡ false
+    → AreLevels own easing at from to (loose_of (level_at from to least) (level_at from to greatest))
+levels-are easing at from to least greatest ends first second =
+    let r : ℤ = half_up (product_at from to least) (alpha_at from to least) in
+    let s : ℤ = half_up (product_at from to greatest) (alpha_at from to greatest) in
+    rw (level-left from to least first, level-left from to greatest second) (record {
+      least =
+          subst (IsGreatestLevel (λ v. AllReach own easing at (gain from to v) (due from v))) (held-least r s)
+          (level-greatest (λ v. AllReach own easing at (gain from to v) (due from v)) (int_min r s)
+          (λ v. joined (each-is (ends.all (gain from to v) (due from v)) (level-reached from to least v first) (level-reached from to greatest v second))
+          (at-most-both v r s)));
+      greatest =
+          subst (IsGreatestLevel (λ v. SomeReach own easing at (gain from to v) (due from v))) (held-most r s)
+          (level-greatest (λ v. SomeReach own easing at (gain from to v) (due from v)) (int_max r s)
+          (λ v. joined (either-is (ends.some (gain from to v) (due from v)) (level-reached from to least v first) (level-reached from to greatest v second))
+          (at-most-one v r s)));
+    })
 
-pub between-is : (a b : ℕ) (x : Frac) → IsShare x → pos a *ℤ x.den +ℤ (pos b -ℤ pos a) *ℤ x.num ≡ between a b (fraction_of x)
-between-is a b x share =
-    subst (λ (z : Frac). pos a *ℤ z.den +ℤ (pos b -ℤ pos a) *ℤ z.num ≡ between a b (fraction_of x)) (share-natural x share)
-    (parts-is a b (fraction_of x))
-
-pub between-made : (a b : ℕ) (u v made : ℤ) (x : Frac) → IsShare x → u ≡ pos a → v ≡ pos b → made ≡ u *ℤ x.den +ℤ (v -ℤ u) *ℤ x.num
-    → made ≡ between a b (fraction_of x)
-between-made a b u v made x share first second is = rw (first, second) at is ∙ between-is a b x share
-
--- so the premultiplied channel is over the alpha
-over-parts : (p q a b n r : ℕ) → p ≤ 255 * a → q ≤ 255 * b → a ≤ 255000 → b ≤ 255000 → 0 < n + r → n + r ≤ 2 ^ 48
-    → IsOver (pos (p * r + q * n)) (pos (a * r + b * n)) (pos (n + r))
-over-parts p q a b n r first second alpha beta some few =
-    let p_times = mul-le-mul first (itself r) in
-    let q_times = mul-le-mul second (itself n) in
-    let a_times = mul-le-mul alpha (itself r) in
-    let b_times = mul-le-mul beta (itself n) in
-    record {
-      some = omega (arith, ints);
-      few = omega (arith, ints);
-      least = omega (arith, ints);
-      most = omega (arith, ints);
-      limit = omega (arith, ints);
-    }
+-- the channel, where the alpha is gone at both ends, at one of them or at none
+pub loose_channel-is : (easing : Easing) (at : Fraction) (from to : Shade) (least greatest : End) → AreEnds easing at least greatest
+    → IsLooseChannel own easing at from to (channel_between from to least greatest)
+loose_channel-is easing at from to least greatest ends =
+    let all = each-is (ends.all (fading from to) (pos from.alpha)) (gone-at from to least) (gone-at from to greatest) in
+    let some = either-is (ends.some (fading from to) (pos from.alpha)) (gone-at from to least) (gone-at from to greatest) in
+    elim (cases_Bool (is_gone_at from to least)) [
+      | inl first ↦ elim (cases_Bool (is_gone_at from to greatest)) [
+        | inl second ↦ rw (first, second) (record {
+          gone = λ h. refl;
+          mixed = λ h not_all. absurd (not_all (all.1 (first, second)));
+          left = λ none. absurd (none (some.1 (inl first)));
+        })
+        | inr second ↦ rw (first, second) (record {
+          gone = λ h. absurd (differ (is_gone_at from to greatest) (all.0 h).1 second);
+          mixed = λ h not_all. refl;
+          left = λ none. absurd (none (some.1 (inl first)));
+        })
+      ]
+      | inr first ↦ elim (cases_Bool (is_gone_at from to greatest)) [
+        | inl second ↦ rw (first, second) (record {
+          gone = λ h. absurd (differ (is_gone_at from to least) (all.0 h).0 first);
+          mixed = λ h not_all. refl;
+          left = λ none. absurd (none (some.1 (inr second)));
+        })
+        | inr second ↦
+            subst (IsLooseChannel own easing at from to) (sym (left-is first second)) (record {
+              gone = λ h. absurd (differ (is_gone_at from to least) (all.0 h).0 first);
+              mixed = λ h not_all. absurd (elim (some.0 h) [
+                | inl k ↦ differ (is_gone_at from to least) k first
+                | inr k ↦ differ (is_gone_at from to greatest) k second
+              ]);
+              left = λ none. levels-are easing at from to least greatest ends first second;
+            })
+      ]
+    ]
   where
-    itself : (k : ℕ) → k ≤ k
-    itself k = omega arith
+    differ : (b : Bool) → b ≡ true → b ≡ false → ⊥
+    differ b yes_it no_it = cc
 
-over-fraction : (p q a b : ℕ) (y : Fraction) → p ≤ 255 * a → q ≤ 255 * b → a ≤ 255000 → b ≤ 255000 → y.num ≤ y.den → 0 < y.den → y.den ≤ 2 ^ 48
-    → IsOver (between p q y) (between a b y) (pos y.den)
-over-fraction p q a b y first second alpha beta within some few =
-    let r : ℕ = y.den - y.num in
-    let e : y.den ≡ y.num + r = omega arith in
-    subst (λ (d : ℕ). IsOver (between p q (record { num = y.num; den = d })) (between a b (record { num = y.num; den = d })) (pos d)) (sym e)
-    (rw (defined-parts p q y.num r, defined-parts a b y.num r)
-    (over-parts p q a b y.num r first second alpha beta (omega arith) (omega arith)))
-
-pub premultiplied-over : (from to : Shade) (x : Frac) → from.level ≤ 255 → to.level ≤ 255 → from.alpha ≤ 255000 → to.alpha ≤ 255000
-    → IsShare x → x.den ≤ℤ pos (2 ^ 48)
-    → IsOver (between (premultiplied from) (premultiplied to) (fraction_of x)) (between from.alpha to.alpha (fraction_of x)) x.den
-premultiplied-over from to x first second alpha beta share few =
-    let natural : frac_of (fraction_of x) ≡ x = share-natural x share in
-    let den : pos (fraction_of x).den ≡ x.den = ap (λ (z : Frac). z.den) natural in
-    subst (λ (d : ℤ). IsOver (between (premultiplied from) (premultiplied to) (fraction_of x)) (between from.alpha to.alpha (fraction_of x)) d) den
-    (over-fraction (premultiplied from) (premultiplied to) from.alpha to.alpha (fraction_of x)
-    (times_alpha from.level from.alpha first) (times_alpha to.level to.alpha second) alpha beta (few_made x share)
-    (omega (arith, ints, share.positive, den)) (omega (arith, ints, few, den)))
-  where
-    times_alpha : (l a : ℕ) → l ≤ 255 → l * a ≤ 255 * a
-    times_alpha l a h = mul-le-mul h (omega arith)
-
--- what is computed of a channel, and what follows
-pub record IsMade (from to : Shade) (x product alpha : Frac) : Type 0 where
-  pub product_is : product.num ≡ between (premultiplied from) (premultiplied to) (fraction_of x)
-  pub alpha_is : alpha.num ≡ between from.alpha to.alpha (fraction_of x)
-  pub den_is : alpha.den ≡ x.den
-
-pub over-made : (from to : Shade) (x product alpha : Frac) → from.level ≤ 255 → to.level ≤ 255 → from.alpha ≤ 255000 → to.alpha ≤ 255000
-    → IsShare x → x.den ≤ℤ pos (2 ^ 48) → IsMade from to x product alpha → IsOver product.num alpha.num alpha.den
-over-made from to x product alpha first second third fourth share few made =
-    rw (made.product_is, made.alpha_is, made.den_is) (premultiplied-over from to x first second third fourth share few)
+    left-is : is_gone_at from to least ≡ false → is_gone_at from to greatest ≡ false
+        → channel_between from to least greatest ≡ loose_of (level_at from to least) (level_at from to greatest)
+    left-is first second =
+        (λ i. channel_left (first i) (second i) (level_at from to least) (level_at from to greatest))
 
 -- a channel is from 0 to 255
-level-small : (from to : Shade) (part : Fraction) (moves : Bool) → IsInSlot eight_bits (one_value (level_by from to part moves))
-level-small from to part false = record {
-  at_least = omega (arith, ints);
-  in_order = omega (arith, ints);
-  at_most = omega (arith, ints);
-}
-level-small from to part true =
-    over-small (between (premultiplied from) (premultiplied to) part) (between from.alpha to.alpha part)
+abbrev IsByte : ℤ → Type 0
+IsByte v = (pos 0 ≤ℤ v) × (v ≤ℤ pos 255)
+
+over-small : (product alpha : ℤ) → IsByte (over_alpha product alpha)
+over-small product alpha =
+    elim (cases_Bool (int_le alpha (pos 0))) [
+      | inl none ↦ rw none (omega (arith, ints), omega (arith, ints))
+      | inr some ↦ rw some (held-small (half_up product alpha))
+    ]
   where
-    held-small : (v : ℤ) → IsInSlot eight_bits (one_value (held_level v))
-    held-small v = record {
-      at_least = omega (arith, ints, clamps);
-      in_order = omega (arith, ints);
-      at_most = omega (arith, ints, clamps);
-    }
+    held-small : (v : ℤ) → IsByte (held_level v)
+    held-small v = (omega (arith, ints, clamps), omega (arith, ints, clamps))
 
-    none-small : IsInSlot eight_bits (one_value (pos 0))
-    none-small = record { at_least = omega (arith, ints); in_order = omega (arith, ints); at_most = omega (arith, ints) }
+left-small : (h k : Bool) (a b : ℤ) → IsByte a → IsByte b → IsInSlot eight_bits (channel_left h k a b)
+left-small true true a b first second = record { at_least = omega (arith, ints); in_order = omega (arith, ints); at_most = omega (arith, ints) }
+left-small true false a b first second = record { at_least = omega (arith, ints); in_order = omega (arith, ints); at_most = omega (arith, ints) }
+left-small false true a b first second = record { at_least = omega (arith, ints); in_order = omega (arith, ints); at_most = omega (arith, ints) }
+left-small false false a b first second =
+    let low = first.0 in
+    let high = first.1 in
+    let other_low = second.0 in
+    let other_high = second.1 in
+    record { at_least = omega (arith, ints, clamps); in_order = omega (arith, ints, clamps); at_most = omega (arith, ints, clamps) }
 
-    by_test : (test : Bool) (v : ℤ) → IsInSlot eight_bits (one_value (if test then pos 0 else held_level v))
-    by_test true v = none-small
-    by_test false v = held-small v
-
-    over-small : (product alpha : ℤ) → IsInSlot eight_bits (one_value (over_alpha product alpha))
-    over-small product alpha = by_test (int_le alpha (pos 0)) (rounded_over product alpha)
-
-pub channel-small : (part : Value → Shade) (way : Way) → IsInSlot eight_bits (one_value (channel_by part way))
-channel-small part way = level-small (part way.from) (part way.to) way.part way.moves
-
--- by the way of a course it is the one on the course
-pub channel_on-is : (part : Value → Shade) (course : Course) → pos (above_zero (channel_on part course)) ≡ channel_by part (way_of course)
-channel_on-is part (still x) = refl
-channel_on-is part (moving i) =
-    let small = channel-small part (way_of (moving i)) in natural (channel_on part (moving i)) small.at_least
+pub level-small : (from to : Shade) (least greatest : End) (moves : Bool) → IsInSlot eight_bits (level_by from to least greatest moves)
+level-small from to least greatest false = own-small from.level
   where
-    natural : (v : ℤ) → pos 0 ≤ℤ v → pos (above_zero v) ≡ v
-    natural (pos n) h = refl
-    natural (negsuc n) h = absurd (omega (arith, ints))
-
--- each kind knows it, where the easing is no curve
-no_curve : (easing : Easing) → is_cubic easing ≡ false → IsNoCurve easing
-no_curve Linear straight = tt
-no_curve (Steps count jump) straight = tt
-no_curve (Cubic x1 y1 x2 y2) straight = cc
-
-loose_channel-is : (kind : Kind) (easing : Easing) (at : Fraction) (from to : Shade) (v : ℤ) → is_cubic easing ≡ false → IsChannelValue easing at from to v
-    → IsLooseChannel kind easing at from to (one_value v)
-loose_channel-is kind Linear at from to v straight is = record {
-  gone = λ all. ap one_value (is.gone all);
-  mixed = λ some left. absurd (left some);
-  left = λ left. record { least = is.left left; greatest = is.left left };
-}
-loose_channel-is kind (Steps count jump) at from to v straight is = record {
-  gone = λ all. ap one_value (is.gone all);
-  mixed = λ some left. absurd (left some);
-  left = λ left. record { least = is.left left; greatest = is.left left };
-}
-loose_channel-is kind (Cubic x1 y1 x2 y2) at from to v straight is = absurd (cc)
-
-pub loose_channel_on-is : (kind : Kind) (part : Value → Shade) (easing : Easing) (at : Fraction) (from to : Value) → is_cubic easing ≡ false
-    → IsLooseChannel kind easing at (part from) (part to) (one_value (channel_value (part from) (part to) (eased easing at)))
-loose_channel_on-is kind part easing at from to straight =
-    loose_channel-is kind easing at (part from) (part to) (channel_value (part from) (part to) (eased easing at)) straight
-    (channel-is easing at (part from) (part to) (no_curve easing straight))
-
--- and no other value is the exact one
-pub channel_on-only : (part : Value → Shade) (easing : Easing) (at : Fraction) (from to : Value) (v : ℤ) → is_cubic easing ≡ false
-    → IsChannelValue easing at (part from) (part to) v → channel_value (part from) (part to) (eased easing at) ≡ v
-channel_on-only part easing at from to v straight is =
-    channel-unique easing at (part from) (part to) (channel_value (part from) (part to) (eased easing at)) v
-    (channel-is easing at (part from) (part to) (no_curve easing straight)) is
+    own-small : (n : ℕ) → IsInSlot eight_bits (one_value (pos (min n 255)))
+    own-small n = record { at_least = omega (arith, ints); in_order = omega (arith, ints); at_most = omega (arith, ints) }
+level-small from to least greatest true =
+    left-small (is_gone_at from to least) (is_gone_at from to greatest) (level_at from to least) (level_at from to greatest)
+    (over-small (product_at from to least) (alpha_at from to least)) (over-small (product_at from to greatest) (alpha_at from to greatest))

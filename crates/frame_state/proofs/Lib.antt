@@ -1,8 +1,10 @@
-mod ChannelLemmas
-mod CourseLemmas
+pub mod ChannelLemmas
+pub mod CourseLemmas
+pub mod EndLemmas
 pub mod ListLemmas
-mod MixLemmas
-mod PlainLemmas
-mod RoundingLemmas
-mod StateLemmas
-mod ValueLemmas
+pub mod MixLemmas
+pub mod PlainLemmas
+pub mod RangeLemmas
+pub mod RoundingLemmas
+pub mod StateLemmas
+pub mod ValueLemmas

@@ -1,7 +1,7 @@
--- The easing of an interval in a scene that can be painted is no curve.
+-- The easings of the intervals in a valid scene are in their limits, and no curves where no easing in use is one.
 use Rattle.std.proofs.Common.{◌≡◌, ℕ, suc, ◌-◌, Bool, true, false, not, List, [], ◌∷◌, ◌++◌, All, IfSome, Option, Some, None, filter, filter_map, get_or, length, slice_get, if◌then◌else◌, option_map, option_and_then, unwrap_or, arith, refl, subst}
 use Rattle.std.specs.List.{cons_option, list_any}
-use Rattle.std.proofs.lemmas.Bool.{and_parts, not-true, or_parts}
+use Rattle.std.proofs.lemmas.Bool.{or_parts}
 use Rattle.std.proofs.lemmas.List.Elements.{All-append, All-cons, All-filter}
 use Rattle.std.proofs.lemmas.Option.{get_or_from_slice_get, option_and_then_some, slice_get_within}
 use Rattle.page_model.specs.declared.animation.Anim.{Anim}
@@ -16,10 +16,11 @@ use Rattle.page_model.specs.Fraction.{Fraction}
 use Rattle.page_model.specs.Keyframes.{Interval, Stop, added_at, first_of, has_stop_at, interval_between, interval_in, interval_of, is_reached, last_of, names, stop_of, stops_of, value_in, whole}
 use Rattle.page_model.specs.LayerAt.{declared}
 use Rattle.page_model.specs.ValidScene.{IsAnimation, IsEasing, IsLayer, IsSetInUse, IsValid}
+use Rattle.fraction_laws.specs.FractionLaws.{IsPart}
+use Rattle.fraction_laws.proofs.FractionLemmas.{distance-is_part}
 use Rattle.easing_bounds.specs.Value as easings
 use Rattle.keyframe_sets.specs.Here.{interval_by, interval_here}
-use Rattle.frame_state.specs.Scenes.{CanBePainted, can_be_painted, is_cubic, is_curved, is_moving, passes, runs_curved, set_passes}
-use Rattle.frame_state.specs.Ways.{IsPlain}
+use Rattle.frame_state.specs.Scenes.{is_cubic, is_curved, passes, runs_curved, set_passes}
 
 -- what is mapped, and what stands under a test
 pub mapped_some : {X Y : Type 0} (f : X → Y) (o : Option X) (y : Y) → option_map f o ≡ Some y → (x : X) × (o ≡ Some x) × (f x ≡ y)
@@ -92,49 +93,81 @@ interval-easing Good frames prop own easing at interval all good e =
     (All-filter (is_reached at) P stops (whole-easing Good own (stops_of prop frames) (stops-easing Good prop frames all))) first_is in
     subst (λ (i : Interval). Good i.easing) second.2 (own-easing Good first.easing easing first_good good))
 
--- no easing in use is a curve
-painted-not_cubic : (scene : Scene) → CanBePainted scene → is_cubic scene ≡ false
-unfolding can_be_painted
-painted-not_cubic scene painted =
-    not-true (is_cubic scene) (and_parts (not (is_cubic scene)) (not (is_moving scene)) painted).0
+-- an animation of a layer, and its set, have such easings alone
+record HaveEasings (Good : Easing → Type 0) (set : KeyframeSet) (anim : Anim) : Type 0 where
+  animation : Good anim.easing
+  frames : All (λ (frame : Keyframe). IfSome frame.easing Good) set.frames
 
-plain-own : (own : Option Easing) → passes easings.is_cubic own ≡ false → IfSome own IsEasing → IfSome own IsPlain
-plain-own None straight limits = tt
-plain-own (Some easing) straight limits = record { straight = straight; limits = limits }
-
--- an animation of a layer, and its set, have plain easings alone
-record HasPlainEasings (set : KeyframeSet) (anim : Anim) : Type 0 where
-  animation : IsPlain anim.easing
-  frames : All (λ (frame : Keyframe). IfSome frame.easing IsPlain) set.frames
-
-plain-easings : (scene : Scene) (number place : ℕ) (layer : Layer) (anim : Anim) (set : KeyframeSet) → IsValid scene → CanBePainted scene
-    → slice_get scene.layers number ≡ Some layer → slice_get layer.anims place ≡ Some anim → slice_get scene.sets anim.set ≡ Some set
-    → HasPlainEasings set anim
-plain-easings scene number place layer anim set valid painted layer_is anim_is set_is =
-    let layers = none_passes (λ (l : Layer). list_any (runs_curved scene.sets) l.anims) scene.layers (painted-not_cubic scene painted) in
-    let anims : list_any (runs_curved scene.sets) layer.anims ≡ false =
-    All-slice_get (λ (l : Layer). list_any (runs_curved scene.sets) l.anims ≡ false) scene.layers number layer layers layer_is in
-    let straight : runs_curved scene.sets anim ≡ false =
-    All-slice_get (λ (a : Anim). runs_curved scene.sets a ≡ false) layer.anims place anim (none_passes (runs_curved scene.sets) layer.anims anims) anim_is in
-    let parts = or_parts (easings.is_cubic anim.easing) (set_passes (λ (s : KeyframeSet). list_any is_curved s.frames) scene.sets anim) straight in
-    let frames : list_any is_curved set.frames ≡ false = rw set_is at parts.1 in
-    let good_layer : IsLayer (length scene.sets) layer = All-slice_get (IsLayer (length scene.sets)) scene.layers number layer valid.layers layer_is in
-    let good_anim = All-slice_get (IsAnimation (length scene.sets)) layer.anims place anim good_layer.animations anim_is in
-    let good_set : IsSetInUse set = All-slice_get IsSetInUse scene.sets anim.set set valid.sets set_is in
-    record {
-      animation = record { straight = parts.0; limits = good_anim.easing };
-      frames = λ k d within.
-          plain-own (get_or set.frames k d).easing (none_passes is_curved set.frames frames k d within) (good_set.is_set.frames k d within).easing;
-    }
-
-pub interval-plain : (scene : Scene) (number place : ℕ) (prop : Prop) (at : Fraction) (interval : Interval) → IsValid scene → CanBePainted scene
-    → interval_here scene number place prop at ≡ Some interval → IsPlain interval.easing
-interval-plain scene number place prop at interval valid painted e =
+interval-good : (Good : Easing → Type 0) (scene : Scene) (number place : ℕ) (prop : Prop) (at : Fraction) (interval : Interval)
+    → ((layer : Layer) (anim : Anim) (set : KeyframeSet) → slice_get scene.layers number ≡ Some layer
+    → slice_get layer.anims place ≡ Some anim → slice_get scene.sets anim.set ≡ Some set → HaveEasings Good set anim)
+    → interval_here scene number place prop at ≡ Some interval → Good interval.easing
+interval-good Good scene number place prop at interval have e =
     option_and_then_some (λ (l : Layer). option_and_then (interval_by scene l prop at) (slice_get l.anims place)) (slice_get scene.layers number) interval e
     (λ layer layer_is of_layer.
     option_and_then_some (interval_by scene layer prop at) (slice_get layer.anims place) interval of_layer
     (λ anim anim_is of_anim.
     option_and_then_some (λ (set : KeyframeSet). interval_of set.frames prop (declared layer prop) anim.easing at) (slice_get scene.sets anim.set) interval of_anim
     (λ set set_is of_set.
-    let plain = plain-easings scene number place layer anim set valid painted layer_is anim_is set_is in
-    interval-easing IsPlain set.frames prop (declared layer prop) anim.easing at interval plain.frames plain.animation of_set)))
+    let good = have layer anim set layer_is anim_is set_is in
+    interval-easing Good set.frames prop (declared layer prop) anim.easing at interval good.frames good.animation of_set)))
+
+-- in a valid scene they are in their limits
+valid-easings : (scene : Scene) (number place : ℕ) (layer : Layer) (anim : Anim) (set : KeyframeSet) → IsValid scene
+    → slice_get scene.layers number ≡ Some layer → slice_get layer.anims place ≡ Some anim → slice_get scene.sets anim.set ≡ Some set
+    → HaveEasings IsEasing set anim
+valid-easings scene number place layer anim set valid layer_is anim_is set_is =
+    let good_layer : IsLayer (length scene.sets) layer = All-slice_get (IsLayer (length scene.sets)) scene.layers number layer valid.layers layer_is in
+    let good_anim = All-slice_get (IsAnimation (length scene.sets)) layer.anims place anim good_layer.animations anim_is in
+    let good_set : IsSetInUse set = All-slice_get IsSetInUse scene.sets anim.set set valid.sets set_is in
+    record {
+      animation = good_anim.easing;
+      frames = λ k d within. (good_set.is_set.frames k d within).easing;
+    }
+
+pub interval-limits : (scene : Scene) (number place : ℕ) (prop : Prop) (at : Fraction) (interval : Interval) → IsValid scene
+    → interval_here scene number place prop at ≡ Some interval → IsEasing interval.easing
+interval-limits scene number place prop at interval valid =
+    interval-good IsEasing scene number place prop at interval
+    (λ layer anim set. valid-easings scene number place layer anim set valid)
+
+-- and where no easing in use is a curve they are none
+abbrev IsStraight : Easing → Type 0
+IsStraight easing = easings.is_cubic easing ≡ false
+
+straight-own : (own : Option Easing) → passes easings.is_cubic own ≡ false → IfSome own IsStraight
+straight-own None straight = tt
+straight-own (Some easing) straight = straight
+
+straight-easings : (scene : Scene) (number place : ℕ) (layer : Layer) (anim : Anim) (set : KeyframeSet) → is_cubic scene ≡ false
+    → slice_get scene.layers number ≡ Some layer → slice_get layer.anims place ≡ Some anim → slice_get scene.sets anim.set ≡ Some set
+    → HaveEasings IsStraight set anim
+straight-easings scene number place layer anim set none layer_is anim_is set_is =
+    let layers = none_passes (λ (l : Layer). list_any (runs_curved scene.sets) l.anims) scene.layers none in
+    let anims : list_any (runs_curved scene.sets) layer.anims ≡ false =
+    All-slice_get (λ (l : Layer). list_any (runs_curved scene.sets) l.anims ≡ false) scene.layers number layer layers layer_is in
+    let straight : runs_curved scene.sets anim ≡ false =
+    All-slice_get (λ (a : Anim). runs_curved scene.sets a ≡ false) layer.anims place anim (none_passes (runs_curved scene.sets) layer.anims anims) anim_is in
+    let parts = or_parts (easings.is_cubic anim.easing) (set_passes (λ (s : KeyframeSet). list_any is_curved s.frames) scene.sets anim) straight in
+    let frames : list_any is_curved set.frames ≡ false = rw set_is at parts.1 in
+    record {
+      animation = parts.0;
+      frames = λ k d within. straight-own (get_or set.frames k d).easing (none_passes is_curved set.frames frames k d within);
+    }
+
+pub interval-straight : (scene : Scene) (number place : ℕ) (prop : Prop) (at : Fraction) (interval : Interval) → is_cubic scene ≡ false
+    → interval_here scene number place prop at ≡ Some interval → easings.is_cubic interval.easing ≡ false
+interval-straight scene number place prop at interval none =
+    interval-good IsStraight scene number place prop at interval
+    (λ layer anim set. straight-easings scene number place layer anim set none)
+
+-- the distance of an interval is from 0 to 1
+pub interval-part : (scene : Scene) (number place : ℕ) (prop : Prop) (at : Fraction) (interval : Interval) → IsPart at
+    → interval_here scene number place prop at ≡ Some interval → IsPart interval.distance
+interval-part scene number place prop at interval part e =
+    option_and_then_some (λ (l : Layer). option_and_then (interval_by scene l prop at) (slice_get l.anims place)) (slice_get scene.layers number) interval e
+    (λ layer layer_is of_layer.
+    option_and_then_some (interval_by scene layer prop at) (slice_get layer.anims place) interval of_layer
+    (λ anim anim_is of_anim.
+    option_and_then_some (λ (set : KeyframeSet). interval_of set.frames prop (declared layer prop) anim.easing at) (slice_get scene.sets anim.set) interval of_anim
+    (λ set set_is of_set. distance-is_part set.frames prop (declared layer prop) anim.easing at interval part of_set)))

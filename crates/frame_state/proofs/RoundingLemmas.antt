@@ -1,22 +1,20 @@
--- The value of a slot at a fraction: it is the greatest number to which the fraction rounds, and no other number is.
-use Rattle.std.proofs.Common.{◌≡◌, ◌↔◌, ℕ, ◌+◌, ◌*◌, ◌<◌, ◌≤◌, ℤ, pos, negsuc, ◌+ℤ◌, ◌-ℤ◌, ◌*ℤ◌, ◌≤ℤ◌, ◌<ℤ◌, Bool, true, false, nat_lt, arith, refl, sym, ap, inl, inr, mul-le-mul, ltb-true, ltb-false}
-use Rattle.std.specs.Int.{int_div_euclid}
-use Rattle.std.proofs.lemmas.Bool.{cases_Bool}
+-- The loose value of a slot between two ends, as the own kind knows it, and how surely a layer is shown.
+use Rattle.std.proofs.Common.{◌≡◌, ◌↔◌, ◌⊎◌, ℕ, ◌+◌, ◌*◌, ◌<◌, ℤ, pos, negsuc, ◌+ℤ◌, ◌-ℤ◌, ◌*ℤ◌, ◌≤ℤ◌, ◌<ℤ◌, int_le, Bool, true, false, arith, refl, sym, ap, subst, inl, inr, mul-le-mul}
+use Rattle.std.specs.Int.{int_div_euclid, int_min, int_max}
 use Rattle.std.proofs.lemmas.Int.{ints, clamps, by_lt_z}
 use borrow.Author.Differences.{up, down, product_is}
 use Rattle.page_model.specs.declared.easing.Easing.{Easing}
-use Rattle.page_model.specs.declared.easing.Easing.TheVariants.{Linear, Steps, Cubic}
-use Rattle.page_model.specs.Curve.{FractionReaches, eased, stepped}
-use Rattle.page_model.specs.Enclosure.{IsHiddenSurely, IsLoose, IsShownSurely, Kind, one_value}
+use Rattle.page_model.specs.Enclosure.{AllReach, IsHiddenSurely, IsLoose, IsShownSurely, SomeReach, own}
 use Rattle.page_model.specs.Fraction.{Fraction}
-use Rattle.page_model.specs.Slot.{Slot, IsGreatestIn, IsHiddenExactlyWhere, IsShownValue, IsSlotValue, held, rounded, shown_value, slot_value, twice_the_way, twice_to_cover}
-use Rattle.fix_span.specs.IntLaws.{times_le}
+use Rattle.page_model.specs.Slot.{Slot, IsGreatestIn, held, twice_the_way, twice_to_cover}
+use Rattle.fix_span.specs.IntLaws.{*ℤ_assoc, times_le}
 use Rattle.fix_span.specs.RoundingLaws.{at_most_floor, floor_above, floor_at_most}
-use Rattle.easing_bounds.specs.Value.{is_cubic}
-use Rattle.frame_state.specs.States.{IsInSlot, sure_of}
+use Rattle.frame_state.specs.States.{IsInSlot}
+use Rattle.frame_state.specs.Ways.{End, between, hides_at, loose_of, rounded_at, shown_between, slot_between, unless_hidden}
+use Rattle.frame_state.proofs.EndLemmas.{AreEnds, EndReaches}
 
 -- the quotient is the greatest whose product isn't above the number
-div-greatest : (a v : ℤ) (q : ℕ) → 0 < q → ((v *ℤ pos q) ≤ℤ a) ↔ (v ≤ℤ int_div_euclid a (pos q))
+pub div-greatest : (a v : ℤ) (q : ℕ) → 0 < q → ((v *ℤ pos q) ≤ℤ a) ↔ (v ≤ℤ int_div_euclid a (pos q))
 div-greatest a v q some = (
   λ within. at_most_floor v (int_div_euclid a (pos q)) a q within (floor_above a q some),
   λ below. chain (v *ℤ pos q) (int_div_euclid a (pos q) *ℤ pos q) a (times_le v (int_div_euclid a (pos q)) q below) (floor_at_most a q some),
@@ -35,7 +33,7 @@ scaled uv dv uf df ub db ud dd u den e f =
 
 cover-scaled :
     (u den : ℕ) (from v : ℤ)
-    → (pos u *ℤ (pos 2 *ℤ v -ℤ pos 1) -ℤ pos 2 *ℤ from) *ℤ pos den +ℤ pos (u * den) +ℤ pos 2 *ℤ from *ℤ pos den ≡ v *ℤ pos (2 * u * den)
+    → (pos u *ℤ (pos 2 *ℤ v -ℤ pos 1) -ℤ pos 2 *ℤ from) *ℤ pos den +ℤ pos (u * den) +ℤ pos 2 *ℤ from *ℤ pos den ≡ v *ℤ pos (2 * (u * den))
 cover-scaled u den from v =
     let b : ℤ = pos 2 *ℤ v -ℤ pos 1 in
     let d : ℤ = pos u *ℤ b -ℤ pos 2 *ℤ from in
@@ -47,34 +45,48 @@ cover-scaled u den from v =
     finish :
         (d from v : ℤ) (u den : ℕ)
         → up d * den + u * den + 2 * up from * den + 2 * u * den * down v ≡ down d * den + 2 * down from * den + 2 * u * den * up v
-        → d *ℤ pos den +ℤ pos (u * den) +ℤ pos 2 *ℤ from *ℤ pos den ≡ v *ℤ pos (2 * u * den)
+        → d *ℤ pos den +ℤ pos (u * den) +ℤ pos 2 *ℤ from *ℤ pos den ≡ v *ℤ pos (2 * (u * den))
     finish d from v u den g =
         let h = ap (λ (n : ℕ). n * den) (product_is (pos 2) from).0 in
         let k = ap (λ (n : ℕ). n * den) (product_is (pos 2) from).1 in
         omega (arith, ints)
 
-moved : (c w f q : ℤ) (r : ℕ) → c +ℤ pos r +ℤ f ≡ q → c ≤ℤ w → q ≤ℤ (w +ℤ f +ℤ pos r)
-moved c w f q r e h = omega (arith, ints)
+-- twice the number on the way
+twice-between : (from way num : ℤ) (den : ℕ)
+    → pos 2 *ℤ (from *ℤ pos den +ℤ way *ℤ num) ≡ pos 2 *ℤ from *ℤ pos den +ℤ pos 2 *ℤ way *ℤ num
+twice-between from way num den =
+    let first = *ℤ_assoc (pos 2) from (pos den) in
+    let second = *ℤ_assoc (pos 2) way num in
+    sums (from *ℤ pos den) (way *ℤ num) (pos 2 *ℤ from *ℤ pos den) (pos 2 *ℤ way *ℤ num) first second
+  where
+    sums : (a b c d : ℤ) → c ≡ pos 2 *ℤ a → d ≡ pos 2 *ℤ b → pos 2 *ℤ (a +ℤ b) ≡ c +ℤ d
+    sums a b c d e f = omega (arith, ints, e, f)
 
-back : (c w f q : ℤ) (r : ℕ) → c +ℤ pos r +ℤ f ≡ q → q ≤ℤ (w +ℤ f +ℤ pos r) → c ≤ℤ w
-back c w f q r e h = omega (arith, ints)
+-- what is to be covered is reached where the whole is, by the number on the way
+moved : (c w f q t : ℤ) (r : ℕ) → c +ℤ pos r +ℤ f ≡ q → t ≡ f +ℤ w → c ≤ℤ w → q ≤ℤ (t +ℤ pos r)
+moved c w f q t r e g h = omega (arith, ints)
 
-positive : (u d : ℕ) → 0 < u → 0 < d → 0 < 2 * u * d
+back : (c w f q t : ℤ) (r : ℕ) → c +ℤ pos r +ℤ f ≡ q → t ≡ f +ℤ w → q ≤ℤ (t +ℤ pos r) → c ≤ℤ w
+back c w f q t r e g h = omega (arith, ints)
+
+positive : (u d : ℕ) → 0 < u → 0 < d → 0 < 2 * (u * d)
 positive u d h k = omega (arith, mul-le-mul h k)
 
--- a fraction on its way rounds to v or more exactly where v is at most the quotient
+-- an end on its way rounds to v or more exactly where v is at most the quotient
 reach-rounds :
-    (slot : Slot) (x : Fraction) (from to v : ℤ) → 0 < slot.unit → 0 < x.den
-    → FractionReaches x (twice_the_way from to) (twice_to_cover slot from v) ↔ (v ≤ℤ rounded slot from to x)
+    (slot : Slot) (x : End) (from to v : ℤ) → 0 < slot.unit → 0 < x.den
+    → EndReaches x (twice_the_way from to) (twice_to_cover slot from v) ↔ (v ≤ℤ rounded_at slot from to x)
 reach-rounds slot x from to v unit den =
     let same = cover-scaled slot.unit x.den from v in
+    let twice = twice-between from (to -ℤ from) x.num x.den in
     let c : ℤ = twice_to_cover slot from v *ℤ pos x.den in
-    let w : ℤ = twice_the_way from to *ℤ pos x.num in
+    let w : ℤ = twice_the_way from to *ℤ x.num in
     let f : ℤ = pos 2 *ℤ from *ℤ pos x.den in
-    let q : ℤ = v *ℤ pos (2 * slot.unit * x.den) in
-    let quotient = div-greatest (w +ℤ f +ℤ pos (slot.unit * x.den)) v (2 * slot.unit * x.den) (positive slot.unit x.den unit den) in (
-      λ reached. quotient.0 (moved c w f q (slot.unit * x.den) same reached),
-      λ below. back c w f q (slot.unit * x.den) same (quotient.1 below),
+    let q : ℤ = v *ℤ pos (2 * (slot.unit * x.den)) in
+    let t : ℤ = pos 2 *ℤ between from to x in
+    let quotient = div-greatest (t +ℤ pos (slot.unit * x.den)) v (2 * (slot.unit * x.den)) (positive slot.unit x.den unit den) in (
+      λ reached. quotient.0 (moved c w f q t (slot.unit * x.den) same twice reached),
+      λ below. back c w f q t (slot.unit * x.den) same twice (quotient.1 below),
     )
 
 -- a number held in a range
@@ -100,111 +112,124 @@ held-greatest slot Holds r some same = record {
   past : (a b r : ℤ) → held (record { unit = 1; least = a; greatest = b }) r <ℤ b → (held (record { unit = 1; least = a; greatest = b }) r +ℤ pos 1) ≤ℤ r → ⊥
   past a b r h k = omega (arith, ints, clamps)
 
--- the greatest number of a slot, by any kind, where the easing is no curve
-greatest-is : (slot : Slot) (x : Fraction) (from to : ℤ) → 0 < slot.unit → slot.least ≤ℤ slot.greatest → 0 < x.den
-    → IsGreatestIn slot (λ v. FractionReaches x (twice_the_way from to) (twice_to_cover slot from v)) (slot_value slot from to x)
-greatest-is slot x from to unit some den =
-    held-greatest slot (λ v. FractionReaches x (twice_the_way from to) (twice_to_cover slot from v)) (rounded slot from to x) some
-    (λ v. reach-rounds slot x from to v unit den)
+-- holding two numbers keeps their order
+held-least : (a b r s : ℤ) → int_max a (int_min (int_min r s) b) ≡ int_min (int_max a (int_min r b)) (int_max a (int_min s b))
+held-least a b r s = omega (arith, ints, clamps)
+
+held-most : (a b r s : ℤ) → int_max a (int_min (int_max r s) b) ≡ int_max (int_max a (int_min r b)) (int_max a (int_min s b))
+held-most a b r s = omega (arith, ints, clamps)
+
+-- what both numbers are at least, and what one of them is
+pub at-most-both : (v r s : ℤ) → ((v ≤ℤ r) × (v ≤ℤ s)) ↔ (v ≤ℤ int_min r s)
+at-most-both v r s = (λ h. both h.0 h.1, λ h. (omega (arith, ints, clamps, h), omega (arith, ints, clamps, h)))
+  where
+    both : v ≤ℤ r → v ≤ℤ s → v ≤ℤ int_min r s
+    both h k = omega (arith, ints, clamps)
+
+pub at-most-one : (v r s : ℤ) → ((v ≤ℤ r) ⊎ (v ≤ℤ s)) ↔ (v ≤ℤ int_max r s)
+at-most-one v r s = (
+  λ h. elim h [
+    | inl k ↦ omega (arith, ints, clamps, k)
+    | inr k ↦ omega (arith, ints, clamps, k)
+  ],
+  λ h. by_lt_z r s (λ less. inr (omega (arith, ints, clamps, h, less))) (λ above. inl (omega (arith, ints, clamps, h, above))),
+)
+
+-- two facts that are so exactly where two others are
+pub each-is : {A B C D E : Type 0} → (A ↔ (B × C)) → (B ↔ D) → (C ↔ E) → (A ↔ (D × E))
+each-is all first second = (
+  λ h. (first.0 (all.0 h).0, second.0 (all.0 h).1),
+  λ h. all.1 (first.1 h.0, second.1 h.1),
+)
+
+pub either-is : {A B C D E : Type 0} → (A ↔ (B ⊎ C)) → (B ↔ D) → (C ↔ E) → (A ↔ (D ⊎ E))
+either-is some first second = (
+  λ h. elim (some.0 h) [
+    | inl k ↦ inl (first.0 k)
+    | inr k ↦ inr (second.0 k)
+  ],
+  λ h. elim h [
+    | inl k ↦ some.1 (inl (first.1 k))
+    | inr k ↦ some.1 (inr (second.1 k))
+  ],
+)
+
+pub joined : {A B C : Type 0} → (A ↔ B) → (B ↔ C) → (A ↔ C)
+joined first second = (λ a. second.0 (first.0 a), λ c. first.1 (second.1 c))
 
 pub loose-is :
-    (kind : Kind) (slot : Slot) (easing : Easing) (at : Fraction) (from to : ℤ) → is_cubic easing ≡ false → 0 < slot.unit
-    → slot.least ≤ℤ slot.greatest → 0 < (eased easing at).den
-    → IsLoose kind slot easing at from to (one_value (slot_value slot from to (eased easing at)))
-loose-is kind slot Linear at from to straight unit some den =
-    let is = greatest-is slot at from to unit some den in record { least = is; greatest = is }
-loose-is kind slot (Steps count jump) at from to straight unit some den =
-    let is = greatest-is slot (stepped count jump at) from to unit some den in record { least = is; greatest = is }
-loose-is kind slot (Cubic x1 y1 x2 y2) at from to straight unit some den = absurd (cc)
+    (slot : Slot) (easing : Easing) (at : Fraction) (from to : ℤ) (least greatest : End) → AreEnds easing at least greatest
+    → 0 < slot.unit → slot.least ≤ℤ slot.greatest → IsLoose own slot easing at from to (slot_between slot from to least greatest)
+loose-is slot easing at from to least greatest ends unit some =
+    let r : ℤ = rounded_at slot from to least in
+    let s : ℤ = rounded_at slot from to greatest in
+    let first : (v : ℤ) → EndReaches least (twice_the_way from to) (twice_to_cover slot from v) ↔ (v ≤ℤ r) =
+    λ v. reach-rounds slot least from to v unit ends.some_least in
+    let second : (v : ℤ) → EndReaches greatest (twice_the_way from to) (twice_to_cover slot from v) ↔ (v ≤ℤ s) =
+    λ v. reach-rounds slot greatest from to v unit ends.some_greatest in record {
+      least =
+          subst (IsGreatestIn slot (λ v. AllReach own easing at (twice_the_way from to) (twice_to_cover slot from v)))
+          (held-least slot.least slot.greatest r s)
+          (held-greatest slot (λ v. AllReach own easing at (twice_the_way from to) (twice_to_cover slot from v)) (int_min r s) some
+          (λ v. joined (each-is (ends.all (twice_the_way from to) (twice_to_cover slot from v)) (first v) (second v)) (at-most-both v r s)));
+      greatest =
+          subst (IsGreatestIn slot (λ v. SomeReach own easing at (twice_the_way from to) (twice_to_cover slot from v)))
+          (held-most slot.least slot.greatest r s)
+          (held-greatest slot (λ v. SomeReach own easing at (twice_the_way from to) (twice_to_cover slot from v)) (int_max r s) some
+          (λ v. joined (either-is (ends.some (twice_the_way from to) (twice_to_cover slot from v)) (first v) (second v)) (at-most-one v r s)));
+    }
 
--- a fraction is 1 or more, or isn't above 0
-one-reached : (x : Fraction) → FractionReaches x (pos 1) (pos 1) ↔ (x.den ≤ x.num)
-one-reached x = (λ h. omega (arith, ints), λ h. omega (arith, ints))
+-- a comparison that holds
+pub le-true : (a b : ℤ) → a ≤ℤ b → int_le a b ≡ true
+le-true a b h = let e : true ≡ int_le a b = omega (arith, ints, h) in sym e
 
-none-reached : (x : Fraction) → FractionReaches x (negsuc 0) (pos 0) ↔ (x.num ≤ 0)
-none-reached x = (λ h. omega (arith, ints), λ h. omega (arith, ints))
+-- an end is 1 or more, or isn't above 0
+one-reached : (x : End) → EndReaches x (pos 1) (pos 1) ↔ (int_le (pos x.den) x.num ≡ true)
+one-reached x = (λ h. le-true (pos x.den) x.num (omega (arith, ints, h)), λ h. omega (arith, ints, h))
 
-hidden-by : (Each Any : Type 0) (m n : ℕ) → (Each ↔ (n ≤ m)) → (Any ↔ (n ≤ m)) → IsHiddenSurely Each Any (sure_of (nat_lt m n))
-hidden-by Each Any m n each any =
-    elim (cases_Bool (nat_lt m n)) [
-      | inl less ↦ rw less (λ hides. let h = ltb-true m n less in let k = any.0 hides in absurd (omega arith))
-      | inr above ↦ rw above (each.1 (ltb-false m n above))
-    ]
+none-reached : (x : End) → EndReaches x (negsuc 0) (pos 0) ↔ (int_le x.num (pos 0) ≡ true)
+none-reached x =
+    let minus = minus-one x.num in (
+      λ h. le-true x.num (pos 0) (omega (arith, ints, h, minus)),
+      λ h. omega (arith, ints, h, minus),
+    )
+  where
+    minus-one : (z : ℤ) → negsuc 0 *ℤ z +ℤ z ≡ pos 0
+    minus-one (pos n) = omega (arith, ints)
+    minus-one (negsuc n) = omega (arith, ints)
 
-pub shown-is : (kind : Kind) (easing : Easing) (at : Fraction) (from to : Bool) → is_cubic easing ≡ false
-    → IsShownSurely kind easing at from to (sure_of (shown_value from to (eased easing at)))
-shown-is kind easing at true true straight = refl
-shown-is kind Linear at true false straight =
-    hidden-by (FractionReaches at (pos 1) (pos 1)) (FractionReaches at (pos 1) (pos 1)) at.num at.den (one-reached at) (one-reached at)
-shown-is kind (Steps count jump) at true false straight =
-    let x : Fraction = stepped count jump at in
-    hidden-by (FractionReaches x (pos 1) (pos 1)) (FractionReaches x (pos 1) (pos 1)) x.num x.den (one-reached x) (one-reached x)
-shown-is kind (Cubic x1 y1 x2 y2) at true false straight = absurd (cc)
-shown-is kind Linear at false true straight =
-    hidden-by (FractionReaches at (negsuc 0) (pos 0)) (FractionReaches at (negsuc 0) (pos 0)) 0 at.num (none-reached at) (none-reached at)
-shown-is kind (Steps count jump) at false true straight =
-    let x : Fraction = stepped count jump at in
-    hidden-by (FractionReaches x (negsuc 0) (pos 0)) (FractionReaches x (negsuc 0) (pos 0)) 0 x.num (none-reached x) (none-reached x)
-shown-is kind (Cubic x1 y1 x2 y2) at false true straight = absurd (cc)
-shown-is kind easing at false false straight = refl
+hidden-by : (Each Any : Type 0) (h k : Bool) → (Each ↔ ((h ≡ true) × (k ≡ true))) → (Any ↔ ((h ≡ true) ⊎ (k ≡ true)))
+    → IsHiddenSurely Each Any (unless_hidden h k)
+hidden-by Each Any true true each any = each.1 (refl, refl)
+hidden-by Each Any true false each any = (any.1 (inl refl), λ all. let both = (each.0 all).1 in cc)
+hidden-by Each Any false true each any = (any.1 (inr refl), λ all. let both = (each.0 all).0 in cc)
+hidden-by Each Any false false each any = λ some. elim (any.0 some) [
+  | inl h ↦ cc
+  | inr k ↦ cc
+]
 
--- the value of a slot lies in its range
-pub in_slot : (slot : Slot) (from to : ℤ) (x : Fraction) → slot.least ≤ℤ slot.greatest → IsInSlot slot (one_value (slot_value slot from to x))
-in_slot slot from to x some = record {
-  at_least = low slot.least slot.greatest (rounded slot from to x);
-  in_order = itself (slot_value slot from to x);
-  at_most = high slot.least slot.greatest (rounded slot from to x) some;
-} where
-  itself : (v : ℤ) → v ≤ℤ v
-  itself v = omega (arith, ints)
+pub shown-is : (easing : Easing) (at : Fraction) (from to : Bool) (least greatest : End) → AreEnds easing at least greatest
+    → IsShownSurely own easing at from to (shown_between from to least greatest)
+shown-is easing at true true least greatest ends = refl
+shown-is easing at true false least greatest ends =
+    hidden-by (AllReach own easing at (pos 1) (pos 1)) (SomeReach own easing at (pos 1) (pos 1)) (hides_at true false least) (hides_at true false greatest)
+    (each-is (ends.all (pos 1) (pos 1)) (one-reached least) (one-reached greatest))
+    (either-is (ends.some (pos 1) (pos 1)) (one-reached least) (one-reached greatest))
+shown-is easing at false true least greatest ends =
+    hidden-by (AllReach own easing at (negsuc 0) (pos 0)) (SomeReach own easing at (negsuc 0) (pos 0)) (hides_at false true least) (hides_at false true greatest)
+    (each-is (ends.all (negsuc 0) (pos 0)) (none-reached least) (none-reached greatest))
+    (either-is (ends.some (negsuc 0) (pos 0)) (none-reached least) (none-reached greatest))
+shown-is easing at false false least greatest ends = refl
 
--- and it is the only one
-only-greatest : (a b r v : ℤ) → a ≤ℤ v → v ≤ℤ b → (a <ℤ v → v ≤ℤ r) → (v <ℤ b → (v +ℤ pos 1) ≤ℤ r → ⊥)
-    → v ≡ held (record { unit = 1; least = a; greatest = b }) r
-only-greatest a b r v low high reached past =
-    by_lt_z a v
-    (λ above. let most = reached above in
-    by_lt_z v b
-    (λ inside. by_lt_z r (v +ℤ pos 1) (λ less. omega (arith, ints, clamps)) (λ next. absurd (past inside next)))
-    (λ top. omega (arith, ints, clamps)))
-    (λ bottom. by_lt_z v b
-    (λ inside. by_lt_z r (v +ℤ pos 1) (λ less. omega (arith, ints, clamps)) (λ next. absurd (past inside next)))
-    (λ top. omega (arith, ints, clamps)))
-
-greatest-only : (slot : Slot) (x : Fraction) (from to v : ℤ) → 0 < slot.unit → 0 < x.den
-    → IsGreatestIn slot (λ v. FractionReaches x (twice_the_way from to) (twice_to_cover slot from v)) v → v ≡ slot_value slot from to x
-greatest-only slot x from to v unit den is =
-    only-greatest slot.least slot.greatest (rounded slot from to x) v is.at_least is.at_most
-    (λ above. (reach-rounds slot x from to v unit den).0 (is.reached above))
-    (λ inside next. is.greatest inside ((reach-rounds slot x from to (v +ℤ pos 1) unit den).1 next))
-
-pub value-only : (slot : Slot) (easing : Easing) (at : Fraction) (from to v : ℤ) → is_cubic easing ≡ false → 0 < slot.unit
-    → 0 < (eased easing at).den → IsSlotValue slot easing at from to v → v ≡ slot_value slot from to (eased easing at)
-value-only slot Linear at from to v straight unit den is = greatest-only slot at from to v unit den is
-value-only slot (Steps count jump) at from to v straight unit den is = greatest-only slot (stepped count jump at) from to v unit den is
-value-only slot (Cubic x1 y1 x2 y2) at from to v straight unit den is = absurd (cc)
-
-hidden-only : (Hides : Type 0) (m n : ℕ) (shown : Bool) → (Hides ↔ (n ≤ m)) → IsHiddenExactlyWhere Hides shown → shown ≡ nat_lt m n
-hidden-only Hides m n true same is =
-    elim (cases_Bool (nat_lt m n)) [
-      | inl less ↦ sym less
-      | inr above ↦ absurd (is.visible refl (same.1 (ltb-false m n above)))
-    ]
-hidden-only Hides m n false same is =
-    elim (cases_Bool (nat_lt m n)) [
-      | inl less ↦ absurd (let h = ltb-true m n less in let k = same.0 (is.hidden refl) in omega arith)
-      | inr above ↦ sym above
-    ]
-
-pub shown-only : (easing : Easing) (at : Fraction) (from to shown : Bool) → is_cubic easing ≡ false → IsShownValue easing at from to shown
-    → shown ≡ shown_value from to (eased easing at)
-shown-only easing at true true shown straight is = is
-shown-only Linear at true false shown straight is = hidden-only (FractionReaches at (pos 1) (pos 1)) at.num at.den shown (one-reached at) is
-shown-only (Steps count jump) at true false shown straight is =
-    let x : Fraction = stepped count jump at in hidden-only (FractionReaches x (pos 1) (pos 1)) x.num x.den shown (one-reached x) is
-shown-only (Cubic x1 y1 x2 y2) at true false shown straight is = absurd (cc)
-shown-only Linear at false true shown straight is = hidden-only (FractionReaches at (negsuc 0) (pos 0)) 0 at.num shown (none-reached at) is
-shown-only (Steps count jump) at false true shown straight is =
-    let x : Fraction = stepped count jump at in hidden-only (FractionReaches x (negsuc 0) (pos 0)) 0 x.num shown (none-reached x) is
-shown-only (Cubic x1 y1 x2 y2) at false true shown straight is = absurd (cc)
-shown-only easing at false false shown straight is = is
+-- the loose value of a slot lies in its range
+pub in_slot : (slot : Slot) (from to : ℤ) (least greatest : End) → slot.least ≤ℤ slot.greatest → IsInSlot slot (slot_between slot from to least greatest)
+in_slot slot from to least greatest some =
+    ordered slot.least slot.greatest (rounded_at slot from to least) (rounded_at slot from to greatest) some
+  where
+    ordered : (a b r s : ℤ) → a ≤ℤ b
+        → IsInSlot (record { unit = slot.unit; least = a; greatest = b }) (loose_of (int_max a (int_min r b)) (int_max a (int_min s b)))
+    ordered a b r s some = record {
+      at_least = omega (arith, ints, clamps);
+      in_order = omega (arith, ints, clamps);
+      at_most = omega (arith, ints, clamps);
+    }

@@ -1,6 +1,6 @@
 -- The values of an interval are those of the keyframes or the element's own: so in a valid scene their colours have alphas of at most
 -- 255,000.
-use Rattle.std.proofs.Common.{◌≡◌, ℕ, ◌≤◌, IfSome, Option, Some, None, get_or, length, slice_get, option_and_then, unwrap_or, arith}
+use Rattle.std.proofs.Common.{◌≡◌, ℕ, IfSome, Option, Some, None, get_or, length, slice_get, option_and_then, unwrap_or, arith}
 use Rattle.std.proofs.lemmas.Option.{option_and_then_some}
 use Rattle.page_model.specs.declared.colour.Rgba.{Rgba}
 use Rattle.page_model.specs.declared.keyframe.KeyframeSet.{KeyframeSet}

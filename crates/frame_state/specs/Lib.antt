@@ -1,5 +1,5 @@
 pub mod Alpha
-pub mod Questions
+pub mod Ends
 pub mod Scenes
 pub mod States
 pub mod Ways

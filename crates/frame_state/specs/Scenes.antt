@@ -1,10 +1,7 @@
--- What kinds of animations a scene has, and so whether its frames can be painted: the project's own. A set of keyframes is in use
--- where an animation of a layer has its number.
-use Rattle.std.specs.Prelude.{Bool, true, false, not, Option, None, Some, ◌&&◌, ◌||◌, List, slice_get, nat_lt, IsTrue}
+-- What kinds of animations a scene has: the project's own. A set of keyframes is in use where an animation of a layer has its number.
+use Rattle.std.specs.Prelude.{Bool, false, Option, None, Some, ◌||◌, List, slice_get}
 use Rattle.std.specs.List.{list_any}
 use Rattle.page_model.specs.declared.animation.Anim.{Anim}
-use Rattle.page_model.specs.declared.animation.Count.{Count}
-use Rattle.page_model.specs.declared.animation.Count.TheVariants.{Times, Infinite}
 use Rattle.page_model.specs.declared.keyframe.Keyframe.{Keyframe}
 use Rattle.page_model.specs.declared.keyframe.KeyframeSet.{KeyframeSet}
 use Rattle.page_model.specs.declared.property.Prop.TheVariants.{Left, Top, Width, Height}
@@ -26,10 +23,6 @@ some_animation test scene = list_any (λ (layer : Layer). list_any test layer.an
 abbrev pub set_passes : (KeyframeSet → Bool) → List KeyframeSet → Anim → Bool
 set_passes test sets anim = passes test (slice_get sets anim.set)
 
--- a layer has an animation
-abbrev pub is_animated : Scene → Bool
-is_animated scene = some_animation (λ (anim : Anim). true) scene
-
 -- a keyframe has a cubic easing of its own
 abbrev pub is_curved : Keyframe → Bool
 is_curved frame = passes easings.is_cubic frame.easing
@@ -49,21 +42,3 @@ names_place set = names Left set.frames || (names Top set.frames || (names Width
 -- a set in use does
 abbrev pub is_moving : Scene → Bool
 is_moving scene = some_animation (set_passes names_place scene.sets) scene
-
-abbrev pub is_infinite : Count → Bool
-is_infinite (Times thousandths) = false
-is_infinite Infinite = true
-
--- an animation never comes to its end: it isn't paused, and has infinitely many iterations that take time
-abbrev pub never_ends : Anim → Bool
-never_ends anim = not anim.paused && (is_infinite anim.count && nat_lt 0 anim.duration)
-
-abbrev pub is_endless : Scene → Bool
-is_endless scene = some_animation never_ends scene
-
--- the frames of a scene can be painted: no easing in use is a curve, and no box moves or grows
-unfoldable pub can_be_painted : Scene → Bool
-can_be_painted scene = not (is_cubic scene) && not (is_moving scene)
-
-abbrev pub CanBePainted : Scene → Type 0
-CanBePainted scene = IsTrue (can_be_painted scene)

@@ -1,5 +1,5 @@
 -- The state of a layer as the code has it, seen as the definitions have it.
-use Rattle.std.specs.Prelude.{ℕ, ℤ, pos, Bool, true, false, Option, None, Some, ◌≡◌, ◌<◌, ◌≤ℤ◌, List, length, slice_get, option_map, unwrap_or}
+use Rattle.std.specs.Prelude.{ℕ, pos, Bool, true, false, Option, None, Some, ◌≡◌, ◌<◌, ◌≤ℤ◌, List, length, slice_get, option_map, unwrap_or}
 use Rattle.page_model.specs.declared.colour.Rgba.{Rgba}
 use Rattle.page_model.specs.declared.property.Prop.{Prop}
 use Rattle.page_model.specs.declared.property.Prop.TheVariants.{Background, Opacity, Visibility, Left, Top, Width, Height}
@@ -7,7 +7,7 @@ use Rattle.page_model.specs.declared.scene.Layer.{Layer}
 use Rattle.page_model.specs.declared.scene.Scene.{Scene}
 use Rattle.page_model.specs.declared.setup.Setup.{Setup}
 use Rattle.page_model.specs.Enclosure.{Loose, LooseState, one_value, Sureness, surely, surely_not, maybe, own, IsLooseStateAt}
-use Rattle.page_model.specs.LayerAt.{IsStateAt, State, state_at, red_of, green_of, blue_of, cover_of, alpha_of, length_of}
+use Rattle.page_model.specs.LayerAt.{IsStateAt, State, red_of, green_of, blue_of, cover_of, alpha_of, length_of}
 use Rattle.page_model.specs.Slot.{Slot, cover, alpha, position, extent}
 use Rattle.fix_span.specs.declared.loose.Loose.{Loose as Ends}
 use Rattle.frame_state.specs.declared.slots.Slot.{Slot as Held}
@@ -101,15 +101,10 @@ nothing = record {
 abbrev pub states_as : List LayerState → ℕ → LooseState
 states_as states number = unwrap_or (option_map state_as (slice_get states number)) nothing
 
--- the states of all layers are those of the own kind; they have the values that are computed; and they are the exact states, whatever
--- these are
+-- the states of all layers are those of the own kind; and they are the exact states, whatever these are
 abbrev pub AreOwn : Scene → Setup → ℕ → (ℕ → LooseState) → Type 0
 AreOwn scene setup frame states =
     (number : ℕ) (layer : Layer) → slice_get scene.layers number ≡ Some layer → IsLooseStateAt own scene setup frame layer (states number)
-
-abbrev pub AreComputed : Scene → Setup → ℕ → (ℕ → LooseState) → Type 0
-AreComputed scene setup frame states =
-    (number : ℕ) (layer : Layer) → slice_get scene.layers number ≡ Some layer → states number ≡ known (state_at scene setup frame layer)
 
 abbrev pub AreExact : Scene → Setup → ℕ → (ℕ → LooseState) → Type 0
 AreExact scene setup frame states =
@@ -123,18 +118,18 @@ AreInSlots scene states = (number : ℕ) → number < length scene.layers → Is
 -- a state by the ways of its properties
 abbrev pub sure_with : Option Rgba → Way → Sureness
 sure_with None way = surely_not
-sure_with (Some colour) way = sure_of (shown_by way)
+sure_with (Some colour) way = shown_by way
 
 abbrev pub state_by : Layer → (Prop → Way) → LooseState
 state_by layer way = record {
-  red = one_value (channel_by red_of (way Background));
-  green = one_value (channel_by green_of (way Background));
-  blue = one_value (channel_by blue_of (way Background));
-  cover = one_value (value_by cover cover_of (way Background));
-  alpha = one_value (value_by alpha alpha_of (way Opacity));
+  red = channel_by red_of (way Background);
+  green = channel_by green_of (way Background);
+  blue = channel_by blue_of (way Background);
+  cover = value_by cover cover_of (way Background);
+  alpha = value_by alpha alpha_of (way Opacity);
   shown = sure_with layer.colour (way Visibility);
-  left = one_value (value_by position length_of (way Left));
-  top = one_value (value_by position length_of (way Top));
-  width = one_value (value_by extent length_of (way Width));
-  height = one_value (value_by extent length_of (way Height));
+  left = value_by position length_of (way Left);
+  top = value_by position length_of (way Top);
+  width = value_by extent length_of (way Width);
+  height = value_by extent length_of (way Height);
 }

@@ -1,70 +1,85 @@
 // The channels of colours, by the premultiplied colours on the way.
-ghost use Rattle.std.specs.Prelude.{◌≡◌, pos, ◌*◌, ◌^◌, ◌≤◌, ◌*ℤ◌, ◌≤ℤ◌, ◌<ℤ◌, if◌then◌else◌};
-ghost use Rattle.page_model.specs.Enclosure.{one_value};
-ghost use Rattle.page_model.specs.Slot as definition;
-ghost use Rattle.fix_span.specs.Frac.{fraction_of, IsShare};
+ghost use Rattle.std.specs.Prelude.{◌≡◌, pos, neg_ℤ, ◌^◌, ◌≤◌, int_le};
+ghost use Rattle.page_model.specs.Slot as slots;
+ghost use Rattle.page_model.specs.ValidScene.{IsBetween};
+ghost use Rattle.frame_state.specs.Ends.{IsEnd};
 ghost use Rattle.frame_state.specs.States.{loose_as};
-ghost use Rattle.frame_state.specs.Ways.{level_by, shade_as};
+ghost use Rattle.frame_state.specs.Ways as definition;
+ghost use Rattle.frame_state.specs.Ways.{end_of, shade_as};
 
 use crate::parts::Shade;
-use crate::slots::between;
-use fix_span::{Encloses, Frac, Loose};
+use crate::slots::{are_same, between, loose_of, rounded};
+use fix_span::{Frac, Loose};
+
+// A premultiplied channel and the alpha on their way at an end, in parts of the end's denominator.
+#[derive(Clone, Copy)]
+struct Made {
+    product: i128,
+    alpha: i128,
+    ghost product_range: { IsBetween (neg_ℤ (pos (2 ^ 100))) (pos (2 ^ 100)) product },
+    ghost alpha_range: { IsBetween (neg_ℤ (pos (2 ^ 100))) (pos (2 ^ 100)) alpha },
+}
 
 // A channel times its alpha.
 fn premultiplied(shade: Shade) -> i32
     requires { shade.alpha ≤ 255000 }
-    ensures value { result ≡ pos (definition.premultiplied (shade_as shade)) }
-    ensures most { result ≤ℤ pos (255 * shade.alpha) }
+    ensures { result ≡ pos (slots.premultiplied (shade_as shade)) }
 {
     shade.level as i32 * shade.alpha as i32
 }
 
-// The greatest level at which there is no less of a product than of so much alpha, rounded half up; 0 where there is no alpha.
-fn over_alpha(product: Frac, alpha: Frac) -> i32
-    requires parts { product.den ≡ alpha.den }
-    requires some { pos 0 <ℤ alpha.den }
-    requires few { alpha.den ≤ℤ pos (2 ^ 48) }
-    requires least { pos 0 ≤ℤ product.num }
-    requires most { product.num ≤ℤ (pos 255 *ℤ alpha.num) }
-    requires limit { alpha.num ≤ℤ (pos 255000 *ℤ alpha.den) }
-    ensures { result ≡ definition.over_alpha product.num alpha.num }
+fn made_at(from: Shade, to: Shade, end: Frac) -> Made
+    requires first { from.alpha ≤ 255000 }
+    requires second { to.alpha ≤ 255000 }
+    requires end { IsEnd end }
+    ensures product { result.product
+        ≡ definition.between (pos (slots.premultiplied (shade_as from))) (pos (slots.premultiplied (shade_as to))) (end_of end) }
+    ensures alpha { result.alpha ≡ definition.alpha_at (shade_as from) (shade_as to) (end_of end) }
 {
-    if alpha.num <= 0 {
+    Made {
+        product: between(premultiplied(from), premultiplied(to), end),
+        alpha: between(from.alpha as i32, to.alpha as i32, end),
+    }
+}
+
+// The product over the alpha, rounded half up and held in its range; 0 where there is no alpha.
+fn level(made: Made) -> i32
+    ensures { result ≡ slots.over_alpha made.product made.alpha }
+{
+    if made.alpha <= 0 {
         return 0;
     }
-    let value = product.over(alpha).round_half_up(1);
-    value.lo.min(255).max(0)
+    rounded(made.product, made.alpha, 0, 255)
 }
 
-// The value of a channel on the way from one colour to another.
-fn channel_value(from: Shade, to: Shade, part: Frac) -> i32
-    requires first { from.alpha ≤ 255000 }
-    requires second { to.alpha ≤ 255000 }
-    requires share { IsShare part }
-    requires few { part.den ≤ℤ pos (2 ^ 48) }
-    ensures { result ≡ definition.channel_value (shade_as from) (shade_as to) (fraction_of part) }
+// The channel by what is made at both ends.
+fn channel_left(first: Made, second: Made) -> Loose
+    ensures { loose_as result ≡ definition.channel_left (int_le first.alpha (pos 0)) (int_le second.alpha (pos 0))
+        (slots.over_alpha first.product first.alpha) (slots.over_alpha second.product second.alpha) }
 {
-    let alpha = between(from.alpha as i32, to.alpha as i32, part);
-    let product = between(premultiplied(from), premultiplied(to), part);
-    over_alpha(product, alpha)
-}
-
-// The value of a channel, both ends of which are the same: on its way, or as it is.
-pub fn channel_on(from: Shade, to: Shade, part: Frac, moves: bool) -> Loose
-    requires first { from.alpha ≤ 255000 }
-    requires second { to.alpha ≤ 255000 }
-    requires share { IsShare part }
-    requires few { part.den ≤ℤ pos (2 ^ 48) }
-    ensures { loose_as result
-        ≡ one_value (level_by (shade_as from) (shade_as to) (fraction_of part) moves) }
-{
-    let level = if moves {
-        channel_value(from, to, part)
-    } else {
-        from.level as i32
-    };
-    Loose {
-        lo: level,
-        hi: level,
+    match (first.alpha <= 0, second.alpha <= 0) {
+        (true, true) => Loose { lo: 0, hi: 0 },
+        (false, false) => loose_of(level(first), level(second)),
+        _ => Loose { lo: 0, hi: 255 },
     }
+}
+
+// The channel on the way from one colour to another, or as it is where it stays.
+pub fn channel_on(from: Shade, to: Shade, least: Frac, greatest: Frac, moves: bool) -> Loose
+    requires first { from.alpha ≤ 255000 }
+    requires second { to.alpha ≤ 255000 }
+    requires least { IsEnd least }
+    requires greatest { IsEnd greatest }
+    ensures { loose_as result
+        ≡ definition.level_by (shade_as from) (shade_as to) (end_of least) (end_of greatest) moves }
+{
+    if !moves {
+        let own = from.level as i32;
+        return Loose { lo: own, hi: own };
+    }
+    let first = made_at(from, to, least);
+    if are_same(least, greatest) {
+        return channel_left(first, first);
+    }
+    channel_left(first, made_at(from, to, greatest))
 }

@@ -4,10 +4,11 @@
 //! is, the keyframe sets between which values a property then is, and the easing how far on its way.
 //! [`layer_at`] and [`states_at`] put these together: of a layer's animations the last that has an effect and
 //! names a property gives its value, unless the winning declaration is important, and each value is rounded
-//! half up and held in its range. Their key clause is that a state is that of the definitions, as the program's
-//! own kind of enclosure knows it; for the scenes that can be painted so far, without curves and without moving
-//! boxes, it is the exact state, both ends of each value being the same. [`can_be_painted`] says which scenes
-//! these are, and the calls beside it what kinds of animations a scene has. No call takes memory.
+//! half up and held in its range. Where a curve eases, no more is known than two ends between which its value
+//! lies; then each whole value has a least and a greatest, and it may be open whether the layer is shown. Their
+//! key clause is that a state is that of the definitions, as the program's own kind of enclosure knows it: so it
+//! holds the exact state, lies in what the wide kind knows, and is the exact state where no curve eases. No call
+//! takes memory.
 //!
 //! What a pixel then looks like is not said here.
 #![tactic(auto)]
@@ -22,5 +23,5 @@ mod way;
 mod ways;
 
 pub use layers::{layer_at, states_at};
-pub use scenes::{can_be_painted, is_animated, is_cubic, is_endless, is_moving};
+pub use scenes::is_moving;
 pub use types::{LayerState, Shown};

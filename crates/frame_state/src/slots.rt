@@ -1,9 +1,10 @@
 // The whole values of slots, rounded half up and held in their ranges.
-ghost use Rattle.std.specs.Prelude.{◌≡◌, pos, ◌^◌, ◌<◌, ◌+ℤ◌, ◌-ℤ◌, ◌*ℤ◌, ◌≤ℤ◌};
-ghost use Rattle.page_model.specs.Slot as definition;
-ghost use Rattle.fix_span.specs.Frac.{fraction_of, IsShare};
-ghost use Rattle.page_model.specs.Enclosure.{one_value};
+ghost use Rattle.std.specs.Prelude.{◌≡◌, ◌↔◌, IsTrue, pos, neg_ℤ, ◌*◌, ◌^◌, ◌<◌, ◌<ℤ◌, ◌≤ℤ◌};
+ghost use Rattle.page_model.specs.ValidScene.{IsBetween};
+ghost use Rattle.std.specs.Int.{int_max, int_min};
+ghost use Rattle.frame_state.specs.Ends.{IsEnd};
 ghost use Rattle.frame_state.specs.States.{slot_as, loose_as};
+ghost use Rattle.frame_state.specs.Ways as definition;
 
 use fix_span::{Encloses, Frac, Loose, mix};
 
@@ -39,44 +40,75 @@ pub const EXTENT: Slot = Slot {
     greatest: 8192,
 };
 
-// The fraction on the way from one number to another.
-pub fn between(from: i32, to: i32, part: Frac) -> Frac
-    requires share { IsShare part }
-    requires few { part.den ≤ℤ pos (2 ^ 48) }
-    ensures num { result.num ≡ from *ℤ part.den +ℤ (to -ℤ from) *ℤ part.num }
-    ensures den { result.den ≡ part.den }
+// The number on the way from one to another at an end, in parts of the end's denominator.
+pub fn between(from: i32, to: i32, end: Frac) -> i128
+    requires { IsEnd end }
+    ensures value { result ≡ definition.between from to (definition.end_of end) }
+    ensures range { IsBetween (neg_ℤ (pos (2 ^ 100))) (pos (2 ^ 100)) result }
 {
-    mix(Frac::whole(from as i64), Frac::whole(to as i64), part)
+    mix(Frac::whole(from as i64), Frac::whole(to as i64), end).num
 }
 
-// It is rounded in a unit.
-fn rounded(slot: Slot, from: i32, to: i32, part: Frac) -> Loose
-    requires unit { 0 < slot.unit }
-    requires share { IsShare part }
-    requires few { part.den ≤ℤ pos (2 ^ 48) }
-    ensures { loose_as result
-        ≡ one_value (definition.rounded (slot_as slot) from to (fraction_of part)) }
+// The lesser and the greater of two values.
+pub fn loose_of(first: i32, second: i32) -> Loose
+    ensures { loose_as result ≡ definition.loose_of first second }
 {
-    between(from, to, part).round_half_up(slot.unit)
-}
-
-fn held(slot: Slot, v: i32) -> i32
-    ensures { result ≡ definition.held (slot_as slot) v }
-{
-    v.min(slot.greatest).max(slot.least)
-}
-
-// The value of a slot, both ends of which are the same.
-pub fn slot_value(slot: Slot, from: i32, to: i32, part: Frac) -> Loose
-    requires unit { 0 < slot.unit }
-    requires share { IsShare part }
-    requires few { part.den ≤ℤ pos (2 ^ 48) }
-    ensures { loose_as result
-        ≡ one_value (definition.slot_value (slot_as slot) from to (fraction_of part)) }
-{
-    let value = rounded(slot, from, to, part);
     Loose {
-        lo: held(slot, value.lo),
-        hi: held(slot, value.hi),
+        lo: first.min(second),
+        hi: first.max(second),
     }
+}
+
+// A number over so many parts, rounded half up, and held in a range.
+pub fn rounded(value: i128, parts: i128, least: i32, greatest: i32) -> i32
+    requires some { pos 0 <ℤ parts }
+    requires few { parts ≤ℤ pos (2 ^ 100) }
+    requires range { IsBetween (neg_ℤ (pos (2 ^ 100))) (pos (2 ^ 100)) value }
+    ensures { result ≡ int_max least (int_min (definition.half_up value parts) greatest) }
+{
+    let whole = (2 * value + parts).div_euclid(2 * parts);
+    whole.min(greatest as i128).max(least as i128) as i32
+}
+
+// In how many parts a slot's unit is counted at an end.
+fn parts_of(slot: Slot, end: Frac) -> i128
+    requires unit { 0 < slot.unit }
+    requires end { IsEnd end }
+    ensures value { result ≡ pos (slot.unit * (definition.end_of end).den) }
+    ensures some { pos 0 <ℤ result }
+    ensures few { result ≤ℤ pos (2 ^ 100) }
+{
+    slot.unit as i128 * end.den
+}
+
+// The value of a slot at an end: rounded half up, and held in the range.
+fn value_at(slot: Slot, from: i32, to: i32, end: Frac) -> i32
+    requires unit { 0 < slot.unit }
+    requires end { IsEnd end }
+    ensures { result ≡ definition.value_at (slot_as slot) from to (definition.end_of end) }
+{
+    let value = between(from, to, end);
+    rounded(value, parts_of(slot, end), slot.least, slot.greatest)
+}
+
+// Whether two ends are written as one.
+pub fn are_same(first: Frac, second: Frac) -> bool
+    ensures { IsTrue result ↔ (first ≡ second) }
+{
+    first == second
+}
+
+// The value of a slot on the way from one number to another, between its values at two ends.
+pub fn slot_value(slot: Slot, from: i32, to: i32, least: Frac, greatest: Frac) -> Loose
+    requires unit { 0 < slot.unit }
+    requires least { IsEnd least }
+    requires greatest { IsEnd greatest }
+    ensures { loose_as result
+        ≡ definition.slot_between (slot_as slot) from to (definition.end_of least) (definition.end_of greatest) }
+{
+    let first = value_at(slot, from, to, least);
+    if are_same(least, greatest) {
+        return loose_of(first, first);
+    }
+    loose_of(first, value_at(slot, from, to, greatest))
 }

@@ -1,23 +1,23 @@
 // A property on its way.
-ghost use Rattle.std.specs.Prelude.{pos, ◌^◌, ◌≤ℤ◌};
-ghost use Rattle.fix_span.specs.Frac.{IsShare};
 ghost use Rattle.frame_state.specs.Alpha.{HasAlpha};
+ghost use Rattle.frame_state.specs.Ends.{IsEnd};
 
 use fix_span::Frac;
 use page_model::Value;
 
-// From one value to another, with a part of the way made. A value that stays doesn't move, even from itself to itself: its colour is
-// kept where it is transparent.
+// From one value to another, with so much of the way made as lies between two ends, which are one where that is a fraction. A value
+// that stays doesn't move, even from itself to itself: its colour is kept where it is transparent.
 #[derive(Clone, Copy)]
 pub struct Way {
     pub from: Value,
     pub to: Value,
-    pub part: Frac,
+    pub least: Frac,
+    pub greatest: Frac,
     pub moves: bool,
     pub ghost first: { HasAlpha from },
     pub ghost second: { HasAlpha to },
-    pub ghost share: { IsShare part },
-    pub ghost few: { part.den ≤ℤ pos (2 ^ 48) },
+    pub ghost least_end: { IsEnd least },
+    pub ghost greatest_end: { IsEnd greatest },
 }
 
 // The way of each property that an animation changes.

@@ -3,12 +3,13 @@ ghost use Rattle.std.specs.Prelude.{Some, length, ◌≡◌, pos, ◌^◌, ◌<�
 ghost use Rattle.page_model.specs.declared.property.Prop.{Prop as Property};
 ghost use Rattle.page_model.specs.declared.scene.Layer.{Layer as Element};
 ghost use Rattle.page_model.specs.LayerAt as shown;
-ghost use Rattle.page_model.specs.ValidScene.{IsColour, IsValid};
+ghost use Rattle.page_model.specs.ValidScene.{IsColour, IsEasing, IsValid};
 ghost use Rattle.fix_span.specs.Frac.{fraction_of, IsShare};
 ghost use Rattle.anim_timing.specs.Timed.{IsTimed};
 ghost use Rattle.keyframe_sets.specs.Here.{interval_here};
+ghost use Rattle.easing_bounds.specs.Value.{AreModest, IfExact, IfWithin};
 ghost use Rattle.frame_state.specs.Alpha.{HasAlpha};
-ghost use Rattle.frame_state.specs.Scenes.{CanBePainted};
+ghost use Rattle.frame_state.specs.Ends.{IsEnd};
 ghost use Rattle.frame_state.specs.Ways as definition;
 
 use crate::way::{Way, Ways};
@@ -28,35 +29,73 @@ fn stays(value: Value) -> Way
     Way {
         from: value,
         to: value,
-        part: Frac { num: 0, den: 1 },
+        least: NOTHING_MADE,
+        greatest: NOTHING_MADE,
         moves: false,
+    }
+}
+
+const NOTHING_MADE: Frac = Frac { num: 0, den: 1 };
+
+// How many parts the ends of a curve's value are told in.
+const CURVE_PARTS: i128 = 1 << 30;
+
+// The lower end of an eased value.
+fn least_of(eased: Eased) -> Frac
+    requires share { IfExact IsShare eased }
+    requires few { IfExact (λ y. y.den ≤ℤ pos (2 ^ 48)) eased }
+    requires modest { IfWithin AreModest eased }
+    ensures value { definition.end_of result ≡ definition.least_of eased }
+    ensures end { IsEnd result }
+{
+    match eased {
+        Eased::Exact(x) => x,
+        Eased::Within(span) => Frac {
+            num: span.lo as i128,
+            den: CURVE_PARTS,
+        },
+    }
+}
+
+// Its upper end.
+fn greatest_of(eased: Eased) -> Frac
+    requires share { IfExact IsShare eased }
+    requires few { IfExact (λ y. y.den ≤ℤ pos (2 ^ 48)) eased }
+    requires modest { IfWithin AreModest eased }
+    ensures value { definition.end_of result ≡ definition.greatest_of eased }
+    ensures end { IsEnd result }
+{
+    match eased {
+        Eased::Exact(x) => x,
+        Eased::Within(span) => Frac {
+            num: span.hi as i128,
+            den: CURVE_PARTS,
+        },
     }
 }
 
 // The way in an interval, eased.
 fn eased_way(interval: Interval) -> Way
-    requires plain { definition.IsPlain interval.easing }
+    requires limits { IsEasing interval.easing }
     requires share { IsShare interval.distance }
     requires few { interval.distance.den ≤ℤ pos (2 ^ 48) }
     requires first { HasAlpha interval.from }
     requires second { HasAlpha interval.to }
     ensures { definition.way_as result ≡ definition.eased_way (definition.interval_as interval) }
 {
-    match eased(&interval.easing, interval.distance) {
-        Eased::Exact(part) => Way {
-            from: interval.from,
-            to: interval.to,
-            part,
-            moves: true,
-        },
-        Eased::Within(_) => unreachable!(),
+    let value = eased(&interval.easing, interval.distance);
+    Way {
+        from: interval.from,
+        to: interval.to,
+        least: least_of(value),
+        greatest: greatest_of(value),
+        moves: true,
     }
 }
 
 // The way of a property by one animation at a progress, where the animation's set names it.
 fn way_at(scene: &Scene, layer: u16, anim: u16, prop: Prop, at: Frac) -> Option<Way>
     requires valid { IsValid scene.now }
-    requires painted { CanBePainted scene.now }
     requires share { IsShare at }
     requires few { at.den ≤ℤ pos 24000000000 }
     ensures { option_map definition.way_as result
@@ -79,7 +118,6 @@ fn latest(
     before: Option<Way>,
 ) -> Option<Way>
     requires valid { IsValid scene.now }
-    requires painted { CanBePainted scene.now }
     requires share { IsShare at }
     requires few { at.den ≤ℤ pos 24000000000 }
     ensures { option_map definition.way_as result
@@ -96,7 +134,6 @@ fn latest(
 // The ways with those of one more animation.
 fn with_animation(scene: &Scene, layer: u16, anim: u16, at: Frac, ways: Ways) -> Ways
     requires valid { IsValid scene.now }
-    requires painted { CanBePainted scene.now }
     requires share { IsShare at }
     requires few { at.den ≤ℤ pos 24000000000 }
     ensures { (prop : Property) → definition.way_found result prop
@@ -128,7 +165,6 @@ const NO_WAYS: Ways = Ways {
 // The ways of a layer's properties at a frame, each by the last animation that has an effect and names it.
 pub fn ways_at(scene: &Scene, setup: &Setup, k: u64, layer: u16, anims: &[Anim]) -> Ways
     requires valid { IsValid scene.now }
-    requires painted { CanBePainted scene.now }
     requires frame { k < 2 ^ 32 }
     requires few { length anims.now ≤ 8 }
     requires timed { All IsTimed anims.now }
@@ -164,9 +200,8 @@ fn is_held(held: Held, prop: Prop) -> bool
 // The way of a property, by what animations make of it.
 pub fn way_of(layer: &Layer, prop: Prop, found: Option<Way>) -> Way
     requires { IfSome layer.now.colour IsColour }
-    ensures value { definition.way_as result ≡ definition.chosen (shown.is_held layer.now.important prop)
+    ensures { definition.way_as result ≡ definition.chosen (shown.is_held layer.now.important prop)
         (shown.declared layer.now prop) (option_map definition.way_as found) }
-    ensures positive { 0 < (definition.way_as result).part.den }
 {
     if is_held(layer.important, prop) {
         return stays(declared(layer, prop));

@@ -2,7 +2,6 @@
 ghost use Rattle.std.specs.Prelude.{◌≡◌, ◌+◌, ◌-◌, ◌<◌, ◌≤◌, length, slice_index};
 ghost use Rattle.page_model.specs.Cells.{cells_between};
 ghost use Rattle.page_model.specs.ValidScene.{IsValid};
-ghost use Rattle.frame_state.specs.Scenes.{CanBePainted};
 ghost use Rattle.region_split.specs.Cutting.{IsCutting, IsListedCutting, cell_of};
 ghost use Rattle.region_split.specs.Sound.{AreSound};
 
@@ -50,7 +49,6 @@ impl Cuts {
     /// `NoMemory` where memory is refused.
     pub fn of(alloc: Global, scene: &Scene, setup: &Setup, frames: u32) -> Result<Cuts, CutFault>
         requires valid { IsValid scene.now }
-        requires painted { CanBePainted scene.now }
         requires some { 1 ≤ frames }
         requires limit { frames ≤ 100241 }
         ensures { IsCutting scene.now setup.now frames result }

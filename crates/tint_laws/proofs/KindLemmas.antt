@@ -1,16 +1,15 @@
 -- Proofs that the kinds of bad windows of a scene nest.
-use Rattle.std.proofs.Common.{◌≡◌, ℕ, arith}
+use Rattle.std.proofs.Common.{ℕ, arith}
 use Rattle.std.proofs.lemmas.Int.{ints}
-use Rattle.std.specs.Prelude.{ℤ, ◌≤ℤ◌, Option, Some, None, slice_get}
+use Rattle.std.specs.Prelude.{ℤ, ◌≤ℤ◌, Option, Some, None}
 use Rattle.page_model.specs.declared.setup.Setup.{Setup}
 use Rattle.page_model.specs.declared.colour.Rgba.{Rgba}
 use Rattle.page_model.specs.declared.easing.Easing.TheVariants.{Linear}
 use Rattle.page_model.specs.declared.property.Prop.{Prop}
 use Rattle.page_model.specs.declared.property.Prop.TheVariants.{Background, Opacity, Visibility, Left, Top, Width, Height}
 use Rattle.page_model.specs.declared.property.Value.{Value}
-use Rattle.page_model.specs.declared.scene.Layer.{Layer}
 use Rattle.page_model.specs.declared.scene.Scene.{Scene}
-use Rattle.page_model.specs.Enclosure.{own, wide, Loose, LooseState, LooseRun, Sureness, IsLooseChannelOn, IsLooseOn, IsSurelyShownWith, IsLooseStateAt}
+use Rattle.page_model.specs.Enclosure.{own, wide, Loose, LooseRun, Sureness, IsLooseChannelOn, IsLooseOn, IsSurelyShownWith}
 use Rattle.page_model.specs.Fraction.{zero_of_one}
 use Rattle.page_model.specs.LayerAt.{Course, still, moving, course_of, red_of, green_of, blue_of, cover_of, alpha_of, length_of, visible_of}
 use Rattle.page_model.specs.Slot.{Shade, Slot, cover, alpha, position, extent}
@@ -18,7 +17,8 @@ use Rattle.page_model.specs.TintOf.{IsLooseRunIn, tints_of}
 use Rattle.page_model.specs.ValidScene.{IsValid}
 use Rattle.tint_laws.specs.NestLaws.{PixelsLieIn}
 use Rattle.curve_laws.specs.SlotLaws.{IsLooser}
-use Rattle.tint_laws.specs.TintLaws.{LooseIn, LooseStateWithin}
+use Rattle.tint_laws.specs.StateNestLaws.{KindsOfStatesNest}
+use Rattle.tint_laws.specs.TintLaws.{LooseIn}
 use Rattle.tint_laws.specs.WindowLaws.{KindsOfBadWindowsNest}
 use Rattle.tint_laws.proofs.CourseLemmas.{IsGoodCourse, good_course_of}
 use Rattle.tint_laws.proofs.NestLemmas.{bad_windows_nest}
@@ -69,9 +69,7 @@ shown-looser (Some colour) (moving interval) outer inner good first second =
     loose_shown_nests.own_in_wide interval.easing good interval.distance (visible_of interval.from) (visible_of interval.to) outer inner first second
 
 -- a loose state of a layer
-pub state-in : (scene : Scene) (setup : Setup) (frame number : ℕ) (layer : Layer) (outer inner : LooseState) → IsValid scene
-    → slice_get scene.layers number ≡ Some layer → IsLooseStateAt wide scene setup frame layer outer
-    → IsLooseStateAt own scene setup frame layer inner → LooseStateWithin outer inner
+pub state-in : KindsOfStatesNest
 state-in scene setup frame number layer outer inner valid is first second =
     let good = λ (prop : Prop). good_course_of scene setup frame number layer prop valid is in
     let background = course_of scene setup frame layer Background in

@@ -11,14 +11,15 @@ use Rattle.page_model.specs.declared.property.Value.{Value}
 use Rattle.page_model.specs.declared.scene.Layer.{Layer}
 use Rattle.page_model.specs.declared.scene.Scene.{Scene}
 use Rattle.page_model.specs.Colour.{Run, IsRunIn, painting_of}
-use Rattle.page_model.specs.Enclosure.{Kind, Loose, LooseState, LooseRun, Sureness, IsLooseChannelOn, IsLooseOn, IsShownSurely, IsSurelyShownWith, IsLooseStateAt}
+use Rattle.page_model.specs.Enclosure.{Kind, Loose, LooseRun, Sureness, IsLooseChannelOn, IsLooseOn, IsShownSurely, IsSurelyShownWith}
 use Rattle.page_model.specs.Fraction.{zero_of_one}
-use Rattle.page_model.specs.LayerAt.{Course, still, moving, State, course_of, red_of, green_of, blue_of, cover_of, alpha_of, length_of, visible_of, IsChannelOn, IsValueOn, IsShownWith, IsStateAt}
+use Rattle.page_model.specs.LayerAt.{Course, still, moving, course_of, red_of, green_of, blue_of, cover_of, alpha_of, length_of, visible_of, IsChannelOn, IsValueOn, IsShownWith}
 use Rattle.page_model.specs.Slot.{Shade, Slot, cover, alpha, position, extent}
 use Rattle.page_model.specs.TintOf.{IsLooseRunIn, tints_of}
 use Rattle.page_model.specs.ValidScene.{IsValid}
 use Rattle.tint_laws.specs.NestLaws.{PixelsAreOf}
 use Rattle.curve_laws.specs.SlotLaws.{IsWithin, Agrees}
+use Rattle.tint_laws.specs.StateNestLaws.{LooseStatesHoldExact}
 use Rattle.tint_laws.specs.TintLaws.{StateWithin}
 use Rattle.tint_laws.specs.WindowLaws.{BadWindowsLieBetween}
 use Rattle.tint_laws.proofs.CourseLemmas.{IsGoodCourse, good_course_of}
@@ -61,9 +62,7 @@ shown-within kind (Some colour) (moving interval) shown seen good is value =
     loose_shown_nests.exact_value kind interval.easing good interval.distance (visible_of interval.from) (visible_of interval.to) shown seen is value
 
 -- a state of a layer
-state-within : (kind : Kind) (scene : Scene) (setup : Setup) (frame number : ℕ) (layer : Layer) (loose : LooseState) (state : State)
-    → IsValid scene → slice_get scene.layers number ≡ Some layer → IsLooseStateAt kind scene setup frame layer loose
-    → IsStateAt scene setup frame layer state → StateWithin loose state
+pub state-within : LooseStatesHoldExact
 state-within kind scene setup frame number layer loose state valid is first second =
     let good = λ (prop : Prop). good_course_of scene setup frame number layer prop valid is in
     let background = course_of scene setup frame layer Background in

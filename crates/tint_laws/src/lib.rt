@@ -1,4 +1,5 @@
-//! Laws of tints: they hold colours and one another, and so what is sure, what is so and what is possible nest.
+//! Laws of tints: they hold colours and one another, as loose states hold exact ones, and so what is sure,
+//! what is so and what is possible nest.
 //!
 //! What a user must believe is the definitions of `page_model`; everything else is proved against them. Nobody runs a definition, so
 //! a slip in one would show nowhere. Each public function here has no parameters and an empty body, and its one clause is a law,
@@ -12,10 +13,12 @@
 
 mod margin;
 mod nest;
+mod state;
 mod tint;
 mod window;
 
 pub use margin::distances_are_close;
 pub use nest::{bad_windows_nest, flashes_nest};
+pub use state::{kinds_of_states_nest, loose_states_hold_exact};
 pub use tint::{alike_pixels_have_one_tint, tints_hold_colours, tints_hold_tints};
 pub use window::{bad_windows_lie_between, kinds_of_bad_windows_nest};

@@ -1,21 +1,21 @@
--- The interval has a plain easing, and values in their limits.
+-- The interval has an easing and values in their limits.
 use Rattle.std.proofs.Common.{sym, subst}
+use Rattle.page_model.specs.ValidScene.{IsEasing}
 use Rattle.fix_span.specs.Frac.{fraction_of}
 use Rattle.keyframe_sets.specs.declared.types.Interval.{Interval}
 use Rattle.keyframe_sets.specs.Here.{interval_here}
 use Rattle.keyframe_sets.specs.Views.{with_frac}
-use Rattle.frame_state.specs.Ways.{IsPlain}
 use Rattle.frame_state.specs.Alpha.{HasAlpha}
 use Rattle.frame_state.proofs.ValueLemmas.{interval-alpha}
-use Rattle.frame_state.proofs.PlainLemmas.{interval-plain, mapped_some}
+use Rattle.frame_state.proofs.PlainLemmas.{interval-limits, mapped_some}
 use Rattle.frame_state.proofs.ways.way_at.Goals as goal
 
-pub eased_way-requires-clause-plain : goal.eased_way-requires-clause-plain
-eased_way-requires-clause-plain c =
+pub eased_way-requires-clause-limits : goal.eased_way-requires-clause-limits
+eased_way-requires-clause-limits c =
     let found = mapped_some with_frac (interval_here c.args.scene.now c.args.layer c.args.anim c.args.prop (fraction_of c.args.at)) c.in-Some.interval
     (sym c.in-Some.ensures.value) in
-    subst (λ (i : Interval). IsPlain i.easing) found.2
-    (interval-plain c.args.scene.now c.args.layer c.args.anim c.args.prop (fraction_of c.args.at) found.0 c.requires.valid c.requires.painted found.1)
+    subst (λ (i : Interval). IsEasing i.easing) found.2
+    (interval-limits c.args.scene.now c.args.layer c.args.anim c.args.prop (fraction_of c.args.at) found.0 c.requires.valid found.1)
 
 pub eased_way-requires-clause-first : goal.eased_way-requires-clause-first
 eased_way-requires-clause-first c =

@@ -1,0 +1,24 @@
+-- Both ends, or the one that both are.
+use Rattle.std.proofs.Common.{◌≡◌, ◌∙◌, of_z, to_z, ap, arith}
+use Rattle.std.specs.Int.{w32}
+use Rattle.std.proofs.lemmas.Int.{ints, to_z-of_z}
+use Rattle.fix_span.specs.declared.frac.Frac.{Frac}
+use Rattle.frame_state.specs.States.{slot_as}
+use Rattle.frame_state.specs.Ways as definition
+use Rattle.frame_state.proofs.slots.slot_value.Goals as goal
+
+pub returns-then-are_same : goal.returns-then-are_same
+returns-then-are_same c =
+    let one : c.args.least ≡ c.args.greatest = c.are_same.ensures.0 c.if-are_same.true in
+    let first : to_z w32 (of_z w32 c.value_at-first.result) ≡ c.value_at-first.result = omega (arith, ints) in
+    let is = first ∙ rw (to_z-of_z w32 c.args.from c.ranges.from, to_z-of_z w32 c.args.to c.ranges.to) at c.value_at-first.ensures in
+    c.loose_of.ensures ∙ (λ i. definition.loose_of (is i) (is i))
+    ∙ ap (λ (x : Frac). definition.slot_between (slot_as c.args.slot) c.args.from c.args.to (definition.end_of c.args.least) (definition.end_of x)) one
+
+pub returns : goal.returns
+returns c =
+    let first : to_z w32 (of_z w32 c.value_at-first.result) ≡ c.value_at-first.result = omega (arith, ints) in
+    let second : to_z w32 (of_z w32 c.value_at.result) ≡ c.value_at.result = omega (arith, ints) in
+    let is = first ∙ rw (to_z-of_z w32 c.args.from c.ranges.from, to_z-of_z w32 c.args.to c.ranges.to) at c.value_at-first.ensures in
+    let other = second ∙ rw (to_z-of_z w32 c.args.from c.ranges.from, to_z-of_z w32 c.args.to c.ranges.to) at c.value_at.ensures in
+    c.loose_of-2.ensures ∙ (λ i. definition.loose_of (is i) (other i))
