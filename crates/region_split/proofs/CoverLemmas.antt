@@ -1,25 +1,28 @@
--- Each layer of a scene that isn't moving covers the pixels of a cell alike.
-use Rattle.std.proofs.Common.{ℕ, zero, suc, ℤ, pos, false, ◌≡◌, ◌⊎◌, ◌+◌, ◌*◌, ◌/◌, ◌%◌, ◌<◌, ◌≤◌, ◌+ℤ◌, List, length, get_or, arith, inl, inr, refl}
+-- Each layer covers the pixels of a cell alike.
+use Rattle.std.proofs.Common.{ℕ, zero, suc, ℤ, pos, true, false, ◌≡◌, ◌⊎◌, ◌+◌, ◌*◌, ◌/◌, ◌%◌, ◌<◌, ◌≤◌, ◌+ℤ◌, ◌≤ℤ◌, List, length, get_or, int_le, int_lt, arith, inl, inr, refl, sym}
+use Rattle.std.specs.Prelude.{Some, slice_get}
 use Rattle.std.proofs.lemmas.Bool.{cases_lt}
 use Rattle.std.proofs.lemmas.Int.{ints}
 use Rattle.std.proofs.lemmas.List.Elements.{Contains-get_or}
-use Rattle.std.proofs.lemmas.Option.{slice_get_cases}
 use Rattle.std.proofs.Math.Nat.{mul-le-mul_left, mul-div-le}
+use Rattle.page_model.specs.declared.property.Prop.{Prop}
+use Rattle.page_model.specs.declared.property.Prop.TheVariants.{Left, Top, Width, Height}
 use Rattle.page_model.specs.declared.scene.Layer.{Layer}
 use Rattle.page_model.specs.declared.scene.Scene.{Scene}
 use Rattle.page_model.specs.declared.setup.Setup.{Setup}
-use Rattle.page_model.specs.Cells.{AreCuts, AreEdges, IsCutBy, IsEdge, IsLooseRunBelow, cells_between, first, end, inside, height_of, left_of, top_of, width_of}
-use Rattle.page_model.specs.Enclosure.{Kind, Loose, LooseRun, LooseState}
-use Rattle.page_model.specs.TintOf.{spans_surely}
+use Rattle.page_model.specs.Cells.{AreCuts, AreEdges, CutsAt, IsCutBy, IsEdge, IsLooseRunBelow, IsPossible, cells_between, end_of, first, end, inside, height_of, left_of, top_of, width_of}
+use Rattle.page_model.specs.Enclosure.{IsLooseOn, IsLooseStateAt, Loose, LooseRun, LooseState, own, surely_not}
+use Rattle.page_model.specs.LayerAt.{Course, course_of, length_of}
+use Rattle.page_model.specs.Slot.{Slot, extent, position}
+use Rattle.page_model.specs.TintOf.{covers_surely, spans_surely}
 use Rattle.page_model.specs.ValidScene.{IsValid}
-use Rattle.region_split.specs.declared.sides.Side.{Side}
-use Rattle.region_split.specs.declared.sides.Side.TheVariants.{Columns, Rows}
+use Rattle.tint_laws.proofs.CourseLemmas.{IsGoodCourse, good_course_of}
+use Rattle.tint_laws.proofs.KindLemmas.{loose-order}
+use Rattle.tint_laws.proofs.WindowLemmas.{layer-at}
 use Rattle.region_split.specs.Cutting.{AreSoundBoth, CoversAlike, IsInside, bands, cell_of}
-use Rattle.region_split.specs.Marks.{extent_of, pixels_of, place_of}
-use Rattle.region_split.specs.Moving.{is_moving}
 use Rattle.region_split.specs.Sound.{AreSound}
 use Rattle.region_split.proofs.AlikeLemmas.{AreTogether, CutsInside, spans-alike}
-use Rattle.region_split.proofs.CutLemmas.{AllStay, StaysThere, columns-all, rows-all}
+use Rattle.region_split.proofs.EdgeLemmas.{IsZero, body-zero}
 
 -- no edge is behind the end
 edge-limit : (size : ℕ) (Cut : ℕ → Type 0) (edges : List ℕ) (i : ℕ) → AreEdges size Cut edges → i < length edges
@@ -30,53 +33,78 @@ edge-limit size Cut edges i are within = limit (get_or edges i 0) ((are.all (get
   limit at (end is) = omega arith
   limit at (inside some less cut) = omega arith
 
--- an end of a box is a cut, and the body has none
-box-cuts : (side : Side) (along across : LooseState → Loose) (run : LooseRun) (scene : Scene) (frames size frame number : ℕ)
-    (layer : Layer) (t : ℤ) → frame < frames → number < length scene.layers → StaysThere side along across layer (run frame number)
-    → (number ≡ 0 → (place_of side layer ≡ pos 0) × (extent_of side layer ≡ pos 0))
-    → (t ≡ pixels_of (place_of side layer)) ⊎ (t ≡ pixels_of (place_of side layer) +ℤ pixels_of (extent_of side layer))
+-- one of the two ends of a loose value
+data IsOneEnd (loose : Loose) (t : ℤ) : Type 0 where
+  is_low : t ≡ loose.lo → IsOneEnd loose t
+  is_high : t ≡ loose.hi → IsOneEnd loose t
+
+one-end : (loose : Loose) (t : ℤ) (n : ℕ) → loose.lo ≤ℤ loose.hi → IsOneEnd loose t → t ≡ pos n → IsPossible loose n
+one-end loose t n order (is_low is) same = record { at_least = omega (arith, ints, is, same); at_most = omega (arith, ints, is, same, order) }
+one-end loose t n order (is_high is) same = record { at_least = omega (arith, ints, is, same, order); at_most = omega (arith, ints, is, same) }
+
+-- the ends of a box in order: the first and the last place at which it may begin, and at which it may end
+pub record AreInOrder (from size : Loose) : Type 0 where
+  pub begins : from.lo ≤ℤ from.hi
+  pub ends : (from.lo +ℤ size.lo) ≤ℤ (from.hi +ℤ size.hi)
+
+-- one of these four places
+abbrev IsEnd : Loose → Loose → ℤ → Type 0
+IsEnd from size t = IsOneEnd from t ⊎ IsOneEnd (end_of from size) t
+
+-- cuts a side if it lies inside
+end-cuts : (from size : Loose) (t : ℤ) (n : ℕ) → AreInOrder from size → IsEnd from size t → t ≡ pos n → CutsAt from size n
+end-cuts from size t n order (inl is) same = inl (one-end from t n order.begins is same)
+end-cuts from size t n order (inr is) same = inr (one-end (end_of from size) t n order.ends is same)
+
+-- so it is a cut of a run, at a box
+box-cuts : (along across : LooseState → Loose) (run : LooseRun) (scene : Scene) (frames size frame number : ℕ) (t : ℤ)
+    → frame < frames → 1 ≤ number → number < length scene.layers
+    → AreInOrder (along (run frame number)) (across (run frame number))
+    → IsEnd (along (run frame number)) (across (run frame number)) t
     → CutsInside size (IsCutBy along across run scene (λ box. frames)) t
-box-cuts side along across run scene frames size frame zero layer t less there stays body is n some below same =
-    let none = body refl in absurd (never t n (rw (none.0, none.1) at is) same some) where
-      never : (t : ℤ) (n : ℕ) → (t ≡ pos 0) ⊎ (t ≡ pos 0 +ℤ pos 0) → t ≡ pos n → 0 < n → ⊥
-      never t n (inl nought) same some = omega (arith, ints)
-      never t n (inr nought) same some = omega (arith, ints)
-box-cuts side along across run scene frames size frame (suc number) layer t less there stays body is n some below same = record {
-  box = suc number;
+box-cuts along across run scene frames size frame number t less some there order is n above below same = record {
+  box = number;
   frame = frame;
-  is_box = omega arith;
+  is_box = some;
   is_layer = there;
   looked_at = less;
-  cuts = elim is [
-    | inl begins ↦ inl (record {
-      at_least = omega (arith, ints, stays.place.low, begins, same);
-      at_most = omega (arith, ints, stays.place.high, begins, same);
-    })
-    | inr ends ↦ inr (record {
-      at_least = omega (arith, ints, stays.place.low, stays.extent.low, ends, same);
-      at_most = omega (arith, ints, stays.place.high, stays.extent.high, ends, same);
-    })
-  ];
+  cuts = end-cuts (along (run frame number)) (across (run frame number)) t n order is same;
 }
 
--- a layer spans two places between neighbouring edges alike
-layer-alike : (side : Side) (along across : LooseState → Loose) (run : LooseRun) (scene : Scene) (frames size frame number : ℕ)
-    (layer : Layer) (edges : List ℕ) (i a b : ℕ) → frame < frames → number < length scene.layers
-    → StaysThere side along across layer (run frame number)
-    → (number ≡ 0 → (place_of side layer ≡ pos 0) × (extent_of side layer ≡ pos 0))
+-- a box spans two places between neighbouring edges alike
+box-alike : (along across : LooseState → Loose) (run : LooseRun) (scene : Scene) (frames size frame number : ℕ) (edges : List ℕ)
+    (i a b : ℕ) → frame < frames → 1 ≤ number → number < length scene.layers
+    → AreInOrder (along (run frame number)) (across (run frame number))
     → AreEdges size (IsCutBy along across run scene (λ box. frames)) edges → AreTogether edges i a b
     → spans_surely (along (run frame number)) (across (run frame number)) a
     ≡ spans_surely (along (run frame number)) (across (run frame number)) b
-layer-alike side along across run scene frames size frame number layer edges i a b less there stays body are both =
+box-alike along across run scene frames size frame number edges i a b less some there order are both =
     spans-alike size (IsCutBy along across run scene (λ box. frames)) edges (along (run frame number)) (across (run frame number)) i a b are
     (edge-limit size (IsCutBy along across run scene (λ box. frames)) edges (i + 1) are both.within) both
-    (cut (along (run frame number)).lo (inl stays.place.low)) (cut (along (run frame number)).hi (inl stays.place.high))
-    (cut ((along (run frame number)).lo +ℤ (across (run frame number)).lo) (inr (omega (arith, ints, stays.place.low, stays.extent.low))))
-    (cut ((along (run frame number)).hi +ℤ (across (run frame number)).hi) (inr (omega (arith, ints, stays.place.high, stays.extent.high))))
+    (cut (along (run frame number)).lo (inl (is_low refl))) (cut (along (run frame number)).hi (inl (is_high refl)))
+    (cut ((along (run frame number)).lo +ℤ (across (run frame number)).lo) (inr (is_low refl)))
+    (cut ((along (run frame number)).hi +ℤ (across (run frame number)).hi) (inr (is_high refl)))
   where
-    cut : (t : ℤ) → (t ≡ pixels_of (place_of side layer)) ⊎ (t ≡ pixels_of (place_of side layer) +ℤ pixels_of (extent_of side layer))
+    cut : (t : ℤ) → IsEnd (along (run frame number)) (across (run frame number)) t
         → CutsInside size (IsCutBy along across run scene (λ box. frames)) t
-    cut t is = box-cuts side along across run scene frames size frame number layer t less there stays body is
+    cut t is = box-cuts along across run scene frames size frame number t less some there order is
+
+-- what is nowhere spans no place
+spans-nowhere : (from size : Loose) (at : ℕ) → IsZero from → IsZero size → spans_surely from size at ≡ surely_not
+spans-nowhere from size at is none =
+    let after : int_lt (pos at) from.lo ≡ false = at-zero from.lo at is.low in
+    let before : int_le (from.hi +ℤ size.hi) (pos at) ≡ true = end-zero (from.hi +ℤ size.hi) at (omega (arith, ints, is.high, none.high)) in
+    rw (after, before) refl
+  where
+    at-zero : (t : ℤ) (at : ℕ) → t ≡ pos 0 → int_lt (pos at) t ≡ false
+    at-zero t at is = let e : false ≡ int_lt (pos at) t = omega (arith, ints) in sym e
+
+    end-zero : (t : ℤ) (at : ℕ) → t ≡ pos 0 → int_le t (pos at) ≡ true
+    end-zero t at is = let e : true ≡ int_le t (pos at) = omega (arith, ints) in sym e
+
+-- and the body, which is nowhere, spans none
+body-alike : (from size : Loose) (a b : ℕ) → IsZero from → IsZero size → spans_surely from size a ≡ spans_surely from size b
+body-alike from size a b is none = rw (spans-nowhere from size a is none, spans-nowhere from size b is none) refl
 
 -- two columns of a cell are together, and so are two rows
 div-below : (i across down : ℕ) → i < across * down → 0 < across → i / across < down
@@ -118,24 +146,47 @@ rows-together xs ys i column row other_column other_row sound rows known one oth
       high_other = omega (arith, other.above, rises);
     }
 
--- each layer covers both pixels alike
-pub covers-alike : (kind : Kind) (scene : Scene) (setup : Setup) (frames : ℕ) (xs ys : List ℕ) (run : LooseRun) → IsValid scene
-    → is_moving scene ≡ false → AreSoundBoth xs ys → IsLooseRunBelow kind scene setup frames run
-    → AreCuts setup scene (λ box. frames) run xs ys → CoversAlike scene frames xs ys run
-unfolding AllStay
-covers-alike kind scene setup frames xs ys run valid calm sound is cuts frame number i column row other_column other_row less there known one other =
-    elim (slice_get_cases scene.layers number).1 [
-      | inl found ↦
-          let across = columns-all kind scene setup frames run valid calm is frame number found.0 less found.2 in
-          let down = rows-all kind scene setup frames run valid calm is frame number found.0 less found.2 in
-          let columns = layer-alike Columns left_of width_of run scene frames setup.width frame number found.0 xs (i % bands xs) column
-          other_column less there across
-          (λ is_first. let body = valid.body found.0 (rw is_first at found.2) in (body.left, body.width)) cuts.columns
-          (columns-together xs ys i column row other_column other_row sound.columns one other) in
-          let rows = layer-alike Rows top_of height_of run scene frames setup.height frame number found.0 ys (i / bands xs) row
-          other_row less there down
-          (λ is_first. let body = valid.body found.0 (rw is_first at found.2) in (body.top, body.height)) cuts.rows
-          (rows-together xs ys i column row other_column other_row sound.columns sound.rows known one other) in
-          rw (columns, rows) refl
-      | inr past ↦ absurd (omega (arith, past.0))
-    ]
+-- the ends of a box's place and size are in order
+box-order : (slot other : Slot) (from size : Course) (begin extent : Loose) → IsGoodCourse from → IsGoodCourse size
+    → IsLooseOn own slot length_of from begin → IsLooseOn own other length_of size extent → AreInOrder begin extent
+box-order slot other from size begin extent good fine is so =
+    let one = loose-order slot length_of from begin good is in
+    let more = loose-order other length_of size extent fine so in
+    record { begins = one; ends = omega (arith, ints, one, more) }
+
+-- a layer of a run covers both pixels alike
+layer-alike : (scene : Scene) (setup : Setup) (frames : ℕ) (xs ys : List ℕ) (run : LooseRun)
+    (frame number i column row other_column other_row : ℕ) (layer : Layer) → IsValid scene → AreSoundBoth xs ys
+    → AreCuts setup scene (λ box. frames) run xs ys → frame < frames → number < length scene.layers
+    → slice_get scene.layers number ≡ Some layer → IsLooseStateAt own scene setup frame layer (run frame number)
+    → AreTogether xs (i % bands xs) column other_column → AreTogether ys (i / bands xs) row other_row
+    → covers_surely (run frame number) column row ≡ covers_surely (run frame number) other_column other_row
+layer-alike scene setup frames xs ys run frame zero i column row other_column other_row layer valid sound cuts less there found is across down =
+    let body = body-zero own scene setup frame layer (run frame zero) (valid.body layer found) is in
+    rw (
+      body-alike (run frame zero).left (run frame zero).width column other_column body.left body.width,
+      body-alike (run frame zero).top (run frame zero).height row other_row body.top body.height,
+    ) refl
+layer-alike scene setup frames xs ys run frame (suc n) i column row other_column other_row layer valid sound cuts less there found is across down =
+    let good = λ (prop : Prop). good_course_of scene setup frame (suc n) layer prop valid found in
+    let wide_order = box-order position extent (course_of scene setup frame layer Left) (course_of scene setup frame layer Width)
+    (run frame (suc n)).left (run frame (suc n)).width (good Left) (good Width) is.is_left is.is_width in
+    let high_order = box-order position extent (course_of scene setup frame layer Top) (course_of scene setup frame layer Height)
+    (run frame (suc n)).top (run frame (suc n)).height (good Top) (good Height) is.is_top is.is_height in
+    rw (
+      box-alike left_of width_of run scene frames setup.width frame (suc n) xs (i % bands xs) column other_column less (omega arith)
+          there wide_order cuts.columns across,
+      box-alike top_of height_of run scene frames setup.height frame (suc n) ys (i / bands xs) row other_row less (omega arith)
+          there high_order cuts.rows down,
+    ) refl
+
+-- so each layer does
+pub covers-alike : (scene : Scene) (setup : Setup) (frames : ℕ) (xs ys : List ℕ) (run : LooseRun) → IsValid scene
+    → AreSoundBoth xs ys → IsLooseRunBelow own scene setup frames run → AreCuts setup scene (λ box. frames) run xs ys
+    → CoversAlike scene frames xs ys run
+covers-alike scene setup frames xs ys run valid sound are cuts frame number i column row other_column other_row less there known one other =
+    let found = layer-at scene.layers number there in
+    layer-alike scene setup frames xs ys run frame number i column row other_column other_row found.0 valid sound cuts less there
+    found.1 (are frame number found.0 less found.1)
+    (columns-together xs ys i column row other_column other_row sound.columns one other)
+    (rows-together xs ys i column row other_column other_row sound.columns sound.rows known one other)

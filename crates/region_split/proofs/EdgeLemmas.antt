@@ -1,74 +1,78 @@
--- Where a loose edge is that stays at one value: at that value in whole pixels, at both ends.
-use Rattle.std.proofs.Common.{ℤ, pos, negsuc, neg_ℤ, ◌≡◌, ◌+ℤ◌, ◌*ℤ◌, ◌≤ℤ◌, ◌<ℤ◌, arith, refl}
+-- The body's box stays at 0, by its states of any kind.
+use Rattle.std.proofs.Common.{ℕ, ℤ, pos, ◌≡◌, ◌≤ℤ◌, ◌<ℤ◌, ◌+ℤ◌, arith, refl}
 use Rattle.std.proofs.lemmas.Int.{ints, by_lt_z}
-use Rattle.std.specs.Int.{int_div_euclid}
-use Rattle.page_model.specs.Curve.{FractionReaches}
-use Rattle.page_model.specs.Enclosure.{Kind, IsLoose, Loose}
+use Rattle.page_model.specs.declared.property.Prop.TheVariants.{Left, Top, Width, Height}
+use Rattle.page_model.specs.declared.property.Value.TheVariants as value
 use Rattle.page_model.specs.declared.easing.Easing.TheVariants.{Linear}
+use Rattle.page_model.specs.declared.scene.Layer.{Layer}
+use Rattle.page_model.specs.declared.scene.Scene.{Scene}
+use Rattle.page_model.specs.declared.setup.Setup.{Setup}
+use Rattle.page_model.specs.Curve.{FractionReaches}
+use Rattle.page_model.specs.Enclosure.{IsLoose, IsLooseOn, IsLooseStateAt, Kind, Loose, LooseState}
 use Rattle.page_model.specs.Fraction.{zero_of_one}
-use Rattle.page_model.specs.Slot.{IsGreatestIn, Slot, twice_the_way, twice_to_cover}
-use Rattle.page_model.specs.ValidScene.{IsBetween, IsExtent, IsPosition}
-use Rattle.region_split.specs.Marks.{pixels_of}
+use Rattle.page_model.specs.LayerAt.{Course, course_of, length_of, still}
+use Rattle.page_model.specs.Slot.{IsGreatestIn, Slot, extent, position, twice_the_way, twice_to_cover}
+use Rattle.page_model.specs.ValidScene.{IsBody}
+use Rattle.region_split.proofs.StillLemmas.{body-quiet, course-still, is_height, is_left, is_top, is_width}
 
--- a whole number is a length rounded half up
-record IsRounded (v e : ℤ) : Type 0 where
-  pub low : (pos 100 *ℤ e) ≤ℤ (v +ℤ pos 50)
-  pub high : (v +ℤ pos 50) <ℤ (pos 100 *ℤ e +ℤ pos 100)
+-- what 0 rounds to: no number above 0, and 0
+reached-low : (slot : Slot) (x : ℤ) → slot.unit ≡ 100
+    → FractionReaches zero_of_one (twice_the_way (pos 0) (pos 0)) (twice_to_cover slot (pos 0) x) → x ≤ℤ pos 0
+reached-low slot x unit reached = let h = rw unit at reached in omega (arith, ints, h)
 
-rounded-sum : (z e : ℤ) → e ≡ int_div_euclid z (pos 100) → ((pos 100 *ℤ e) ≤ℤ z) × (z <ℤ (pos 100 *ℤ e +ℤ pos 100))
-rounded-sum (pos a) e is = rw is (omega (arith, ints), omega (arith, ints))
-rounded-sum (negsuc a) e is = rw is (omega (arith, ints), omega (arith, ints))
+low-reached : (slot : Slot) (x : ℤ) → slot.unit ≡ 100 → x ≤ℤ pos 0
+    → FractionReaches zero_of_one (twice_the_way (pos 0) (pos 0)) (twice_to_cover slot (pos 0) x)
+low-reached slot x unit low = rw unit (omega (arith, ints, low))
 
-rounded-pixels : (v : ℤ) → IsRounded v (pixels_of v)
-rounded-pixels v =
-    let both = rounded-sum (v +ℤ pos 50) (pixels_of v) refl in record { low = both.0; high = both.1 }
-
--- what rounds to a number or more, staying at a value
-reached-low : (slot : Slot) (v x : ℤ) → slot.unit ≡ 100
-    → FractionReaches zero_of_one (twice_the_way v v) (twice_to_cover slot v x) → (pos 100 *ℤ x) ≤ℤ (v +ℤ pos 50)
-reached-low slot v x unit reached = let h = rw unit at reached in omega (arith, ints, h)
-
-low-reached : (slot : Slot) (v x : ℤ) → slot.unit ≡ 100 → (pos 100 *ℤ x) ≤ℤ (v +ℤ pos 50)
-    → FractionReaches zero_of_one (twice_the_way v v) (twice_to_cover slot v x)
-low-reached slot v x unit low = rw unit (omega (arith, ints, low))
-
--- the greatest of them in the slot's range is that length
-greatest-still : (slot : Slot) (v x : ℤ) → slot.unit ≡ 100 → slot.least ≤ℤ pixels_of v → pixels_of v ≤ℤ slot.greatest
-    → IsGreatestIn slot (λ w. FractionReaches zero_of_one (twice_the_way v v) (twice_to_cover slot v w)) x → x ≡ pixels_of v
-greatest-still slot v x unit above below so =
-    let round = rounded-pixels v in
-    by_lt_z x (pixels_of v)
+-- the greatest number in the slot's range to which it does is 0
+greatest-zero : (slot : Slot) (x : ℤ) → slot.unit ≡ 100 → slot.least ≤ℤ pos 0 → pos 0 ≤ℤ slot.greatest
+    → IsGreatestIn slot (λ w. FractionReaches zero_of_one (twice_the_way (pos 0) (pos 0)) (twice_to_cover slot (pos 0) w)) x
+    → x ≡ pos 0
+greatest-zero slot x unit above below so =
+    by_lt_z x (pos 0)
     (λ less.
     let inside : x <ℤ slot.greatest = omega (arith, ints) in
-    let more : (pos 100 *ℤ (x +ℤ pos 1)) ≤ℤ (v +ℤ pos 50) = omega (arith, ints, round.low) in
-    absurd (so.greatest inside (low-reached slot v (x +ℤ pos 1) unit more)))
-    (λ least. by_lt_z (pixels_of v) x
+    let more : (x +ℤ pos 1) ≤ℤ pos 0 = omega (arith, ints) in
+    absurd (so.greatest inside (low-reached slot (x +ℤ pos 1) unit more)))
+    (λ least. by_lt_z (pos 0) x
     (λ less.
     let over : slot.least <ℤ x = omega (arith, ints) in
-    let low = reached-low slot v x unit (so.reached over) in
-    absurd (omega (arith, ints, low, round.high)))
+    let low = reached-low slot x unit (so.reached over) in
+    absurd (omega (arith, ints, low)))
     (λ other. omega (arith, ints)))
 
--- both ends of a loose edge that stays
-pub loose-still : (kind : Kind) (slot : Slot) (v : ℤ) (loose : Loose) → slot.unit ≡ 100 → slot.least ≤ℤ pixels_of v
-    → pixels_of v ≤ℤ slot.greatest → IsLoose kind slot Linear zero_of_one v v loose
-    → (loose.lo ≡ pixels_of v) × (loose.hi ≡ pixels_of v)
-loose-still kind slot v loose unit above below so =
-    (greatest-still slot v loose.lo unit above below so.least, greatest-still slot v loose.hi unit above below so.greatest)
+-- a loose value is 0
+pub record IsZero (loose : Loose) : Type 0 where
+  pub low : loose.lo ≡ pos 0
+  pub high : loose.hi ≡ pos 0
 
--- the range of a slot has every rounded length
-pub position-pixels : (v : ℤ) → IsPosition v → IsBetween (neg_ℤ (pos 8192)) (pos 8192) (pixels_of v)
-position-pixels v within =
-    let round = rounded-pixels v in
+loose-zero : (kind : Kind) (slot : Slot) (course : Course) (v : ℤ) (loose : Loose) → slot.unit ≡ 100 → slot.least ≤ℤ pos 0
+    → pos 0 ≤ℤ slot.greatest → v ≡ pos 0 → course ≡ still (value.Length v) → IsLooseOn kind slot length_of course loose → IsZero loose
+loose-zero kind slot course v loose unit above below none stays so =
+    let is : IsLoose kind slot Linear zero_of_one (pos 0) (pos 0) loose = rw (stays, none) at so in
     record {
-      at_least = omega (arith, ints, round.low, round.high, within.at_least, within.at_most);
-      at_most = omega (arith, ints, round.low, round.high, within.at_least, within.at_most);
+      low = greatest-zero slot loose.lo unit above below is.least;
+      high = greatest-zero slot loose.hi unit above below is.greatest;
     }
 
-pub extent-pixels : (v : ℤ) → IsExtent v → IsBetween (pos 0) (pos 8192) (pixels_of v)
-extent-pixels v within =
-    let round = rounded-pixels v in
+-- place and size both ways
+pub record IsNowhere (state : LooseState) : Type 0 where
+  pub left : IsZero state.left
+  pub top : IsZero state.top
+  pub width : IsZero state.width
+  pub height : IsZero state.height
+
+pub body-zero : (kind : Kind) (scene : Scene) (setup : Setup) (frame : ℕ) (body : Layer) (state : LooseState)
+    → IsBody scene.sets body → IsLooseStateAt kind scene setup frame body state → IsNowhere state
+body-zero kind scene setup frame body state is so =
+    let quiet = body-quiet scene.sets body is in
     record {
-      at_least = omega (arith, ints, round.low, round.high, within.at_least, within.at_most);
-      at_most = omega (arith, ints, round.low, round.high, within.at_least, within.at_most);
+      left = loose-zero kind position (course_of scene setup frame body Left) body.left state.left refl (omega (arith, ints))
+          (omega (arith, ints)) is.left (course-still scene setup frame body Left quiet (is_left refl)) so.is_left;
+      top = loose-zero kind position (course_of scene setup frame body Top) body.top state.top refl (omega (arith, ints))
+          (omega (arith, ints)) is.top (course-still scene setup frame body Top quiet (is_top refl)) so.is_top;
+      width = loose-zero kind extent (course_of scene setup frame body Width) body.width state.width refl (omega (arith, ints))
+          (omega (arith, ints)) is.width (course-still scene setup frame body Width quiet (is_width refl)) so.is_width;
+      height = loose-zero kind extent (course_of scene setup frame body Height) body.height state.height refl (omega (arith, ints))
+          (omega (arith, ints)) is.height (course-still scene setup frame body Height quiet (is_height refl)) so.is_height;
     }

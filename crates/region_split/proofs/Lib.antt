@@ -6,5 +6,5 @@ pub mod EdgeLemmas
 pub mod ListLemmas
 pub mod MarkLemmas
 pub mod RisingLemmas
+pub mod StayLemmas
 pub mod StillLemmas
-pub mod WideLemmas

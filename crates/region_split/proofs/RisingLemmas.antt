@@ -73,3 +73,27 @@ rising-unique (x ∷ xs) (y ∷ ys) rises rising into back =
     let rest = rising-unique xs ys (rising-rest x xs rises) (rising-rest y ys rising) (rest-in x y xs ys same rises into)
     (rest-in y x ys xs (sym same) rising back) in
     cc
+
+-- a rising list whose numbers are all in another one is no longer
+pub rising-fewer : (xs ys : List ℕ) → IsStrictlyIncreasing xs → IsStrictlyIncreasing ys
+    → ((z : ℕ) → Contains xs z → Contains ys z) → length xs ≤ length ys
+rising-fewer [] ys rises rising into = omega arith
+rising-fewer (x ∷ xs) [] rises rising into = absurd (contains-none x (into x (contains-first x xs)))
+rising-fewer (x ∷ xs) (y ∷ ys) rises rising into =
+    elim (contains-cases y x ys (into x (contains-first x xs))) [
+      | inl same ↦
+          let fewer = rising-fewer xs ys (rising-rest x xs rises) (rising-rest y ys rising) (rest-in x y xs ys (sym same) rises into) in
+          omega arith
+      | inr later ↦
+          let fewer = rising-fewer (x ∷ xs) ys rises (rising-rest y ys rising) (λ z has.
+          elim (contains-cases y z ys (into z has)) [
+            | inl is ↦
+                let above = above-first y x ys rising later in
+                elim (contains-cases x z xs has) [
+                  | inl first_is ↦ absurd (omega arith)
+                  | inr behind ↦ let order = above-first x z xs rises behind in absurd (omega arith)
+                ]
+            | inr there ↦ there
+          ]) in
+          omega arith
+    ]

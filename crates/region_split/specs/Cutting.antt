@@ -1,7 +1,6 @@
 -- The cells of a scene as they are told: the edges of the own kind both ways, and the rectangles between them.
-use Rattle.std.specs.Prelude.{ℕ, ◌≡◌, ◌+◌, ◌-◌, ◌*◌, ◌/◌, ◌%◌, ◌<◌, ◌≤◌, List, length, slice_index, Result, Ok, Err}
+use Rattle.std.specs.Prelude.{ℕ, Bool, ◌≡◌, ◌+◌, ◌-◌, ◌*◌, ◌/◌, ◌%◌, ◌<◌, ◌≤◌, List, length, slice_index, Result, Ok, Err}
 use Rattle.page_model.specs.declared.setup.Setup.{Setup}
-use Rattle.page_model.specs.declared.scene.Layer.{Layer}
 use Rattle.page_model.specs.declared.scene.Scene.{Scene}
 use Rattle.page_model.specs.Cells.{AreCuts, IsLooseRunBelow, cells_between, work_limit}
 use Rattle.page_model.specs.Enclosure.{LooseRun, own, wide}
@@ -9,8 +8,7 @@ use Rattle.page_model.specs.TintOf.{covers_surely}
 use Rattle.region_split.specs.declared.types.Rect.{Rect}
 use Rattle.region_split.specs.declared.types.CutFault.{CutFault}
 use Rattle.region_split.specs.declared.types.CutFault.TheVariants.{Work, NoMemory}
-use Rattle.region_split.specs.declared.sides.Side.TheVariants.{Columns, Rows}
-use Rattle.region_split.specs.Marks.{AreDeclared}
+use Rattle.region_split.specs.Marks.{AreListed}
 use Rattle.region_split.specs.Sound.{AreSound}
 
 -- the edges both ways
@@ -84,23 +82,23 @@ IsCutting scene setup frames (Ok edges) = IsCut scene setup frames edges
 IsCutting scene setup frames (Err (Work cells)) = IsWork scene setup frames cells
 IsCutting scene setup frames (Err NoMemory) = Unit {0}
 
--- the same by the declared lengths of layers alone
-pub record AreDeclaredBoth (layers : List Layer) (setup : Setup) (xs ys : List ℕ) : Type 0 where
-  pub columns : AreDeclared Columns layers setup.width xs
-  pub rows : AreDeclared Rows layers setup.height ys
+-- the same by what is marked
+pub record AreListedBoth (columns rows : List Bool) (setup : Setup) (xs ys : List ℕ) : Type 0 where
+  pub columns_are : AreListed columns setup.width xs
+  pub rows_are : AreListed rows setup.height ys
 
-pub record IsDeclaredWork (layers : List Layer) (setup : Setup) (frames cells : ℕ) : Type 0 where
+pub record IsListedWork (columns rows : List Bool) (setup : Setup) (frames cells : ℕ) : Type 0 where
   pub xs : List ℕ
   pub ys : List ℕ
-  pub declared : AreDeclaredBoth layers setup xs ys
+  pub listed : AreListedBoth columns rows setup xs ys
   pub cells_are : cells ≡ cells_between xs ys
   pub too_many : work_limit < cells * frames
 
-pub record IsDeclaredCut (layers : List Layer) (setup : Setup) (frames : ℕ) (edges : Edges) : Type 0 where
-  pub declared : AreDeclaredBoth layers setup edges.xs edges.ys
+pub record IsListedCut (columns rows : List Bool) (setup : Setup) (frames : ℕ) (edges : Edges) : Type 0 where
+  pub listed : AreListedBoth columns rows setup edges.xs edges.ys
   pub few_enough : cells_between edges.xs edges.ys * frames ≤ work_limit
 
-abbrev pub IsDeclaredCutting : List Layer → Setup → ℕ → Result Edges CutFault → Type 0
-IsDeclaredCutting layers setup frames (Ok edges) = IsDeclaredCut layers setup frames edges
-IsDeclaredCutting layers setup frames (Err (Work cells)) = IsDeclaredWork layers setup frames cells
-IsDeclaredCutting layers setup frames (Err NoMemory) = Unit {0}
+abbrev pub IsListedCutting : List Bool → List Bool → Setup → ℕ → Result Edges CutFault → Type 0
+IsListedCutting columns rows setup frames (Ok edges) = IsListedCut columns rows setup frames edges
+IsListedCutting columns rows setup frames (Err (Work cells)) = IsListedWork columns rows setup frames cells
+IsListedCutting columns rows setup frames (Err NoMemory) = Unit {0}

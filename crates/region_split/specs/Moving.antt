@@ -1,12 +1,10 @@
--- Whether a scene's boxes may move or grow: a set of keyframes that is in use names a place or a size. A set is in use where an
--- animation of a layer has its number. This is the project's own.
+-- Whether a layer may move or grow: the set of one of its animations names a place or a size. This is the project's own.
 use Rattle.std.specs.Prelude.{Bool, false, Option, None, Some, ◌||◌, List, slice_get}
 use Rattle.std.specs.List.{list_any}
 use Rattle.page_model.specs.declared.animation.Anim.{Anim}
 use Rattle.page_model.specs.declared.keyframe.KeyframeSet.{KeyframeSet}
 use Rattle.page_model.specs.declared.property.Prop.TheVariants.{Left, Top, Width, Height}
 use Rattle.page_model.specs.declared.scene.Layer.{Layer}
-use Rattle.page_model.specs.declared.scene.Scene.{Scene}
 use Rattle.page_model.specs.Keyframes.{names}
 
 -- a set names a place or a size
@@ -22,6 +20,6 @@ some_names_edge (Some set) = names_edge set
 abbrev pub moves : List KeyframeSet → Anim → Bool
 moves sets anim = some_names_edge (slice_get sets anim.set)
 
--- the set of some animation of some layer does
-abbrev pub is_moving : Scene → Bool
-is_moving scene = list_any (λ (layer : Layer). list_any (moves scene.sets) layer.anims) scene.layers
+-- the set of some animation of the layer does
+abbrev pub may_move : List KeyframeSet → Layer → Bool
+may_move sets layer = list_any (moves sets) layer.anims

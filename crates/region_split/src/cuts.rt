@@ -1,16 +1,14 @@
 // The edges of a scene both ways, and the cells between them.
-ghost use Rattle.std.specs.Prelude.{◌≡◌, ◌+◌, ◌-◌, ◌<◌, ◌≤◌, false, length, slice_index};
+ghost use Rattle.std.specs.Prelude.{◌≡◌, ◌+◌, ◌-◌, ◌<◌, ◌≤◌, length, slice_index};
 ghost use Rattle.page_model.specs.Cells.{cells_between};
 ghost use Rattle.page_model.specs.ValidScene.{IsValid};
-ghost use Rattle.region_split.specs.Cutting.{IsCutting, IsDeclaredCutting, cell_of};
-ghost use Rattle.region_split.specs.Marks.{HaveLengths};
-ghost use Rattle.region_split.specs.Moving.{is_moving};
+ghost use Rattle.region_split.specs.Cutting.{IsCutting, IsListedCutting, cell_of};
 ghost use Rattle.region_split.specs.Sound.{AreSound};
 
-use crate::listing::edges_of;
-use crate::sides::Side;
+use crate::listing::listed;
+use crate::marks::{Marks, marks_of};
 use crate::types::{CutFault, Rect};
-use page_model::{Layer, Scene, Setup};
+use page_model::{Scene, Setup};
 use std::alloc::Global;
 use std::marker::Model;
 
@@ -42,8 +40,8 @@ impl Model for Cuts {
 }
 
 impl Cuts {
-    /// The edges of a scene whose boxes neither move nor grow, in so many frames. A hidden box has
-    /// edges too.
+    /// The edges of a scene in so many frames: each column and each row inside the viewport at which a
+    /// box may begin or end in one of them, and the viewport's ends. A hidden box has edges too.
     ///
     /// # Errors
     ///
@@ -51,12 +49,12 @@ impl Cuts {
     /// `NoMemory` where memory is refused.
     pub fn of(alloc: Global, scene: &Scene, setup: &Setup, frames: u32) -> Result<Cuts, CutFault>
         requires valid { IsValid scene.now }
-        requires still { is_moving scene.now ≡ false }
         requires some { 1 ≤ frames }
         requires limit { frames ≤ 100241 }
         ensures { IsCutting scene.now setup.now frames result }
     {
-        cut_layers(alloc, scene.layers.as_slice(), setup, frames)
+        let marks = marks_of(scene, setup, frames);
+        cut_marked(alloc, &marks, setup, frames)
     }
 
     /// How many cells there are.
@@ -99,19 +97,13 @@ impl Cuts {
     }
 }
 
-/// The edges of layers that neither move nor grow.
-pub(crate) fn cut_layers(
-    alloc: Global,
-    layers: &[Layer],
-    setup: &Setup,
-    frames: u32,
-) -> Result<Cuts, CutFault>
-    requires lengths { HaveLengths layers.now }
-    requires limit { frames ≤ 100241 }
-    ensures { IsDeclaredCutting layers.now setup.now frames result }
+/// The edges at marked places, where the cells between them times the frames aren't too many.
+fn cut_marked(alloc: Global, marks: &Marks, setup: &Setup, frames: u32) -> Result<Cuts, CutFault>
+    requires { frames ≤ 100241 }
+    ensures { IsListedCutting marks.now.columns marks.now.rows setup.now frames result }
 {
-    let xs = edges_of(alloc, layers, Side::Columns, setup.width())?;
-    let ys = edges_of(alloc, layers, Side::Rows, setup.height())?;
+    let xs = listed(alloc, &marks.columns, setup.width())?;
+    let ys = listed(alloc, &marks.rows, setup.height())?;
     let cells = cells_of(&xs, &ys);
     if u64::from(cells) * u64::from(frames) > MOST_WORK {
         return Err(CutFault::Work { cells });

@@ -7,14 +7,15 @@
 //! not or maybe. It refuses exactly where cells times frames are too many to judge. What a list of
 //! edges always is, `AreSound`, is what the search for the greatest flagged area asks for.
 //!
-//! For now it cuts scenes whose boxes neither move nor grow, so the declared lengths say all. It
-//! says nothing of what a box shows, nor whether it is hidden: a hidden box has edges too.
+//! Boxes may move and grow, and where they are may be known loosely: then each place at which a box
+//! may begin or end is an edge. It says nothing of what a box shows, nor whether it is hidden: a hidden
+//! box has edges too.
 #![tactic(auto)]
 
 mod cuts;
 mod listing;
 mod marks;
-mod sides;
+mod moving;
 mod types;
 
 pub use cuts::Cuts;

@@ -1,0 +1,45 @@
+// Which layers may move or grow.
+ghost use Rattle.std.specs.Prelude.{Some, ◌≡◌, ◌<◌, length, slice_get};
+ghost use Rattle.std.specs.List.{list_any};
+ghost use Rattle.page_model.specs.declared.scene.Layer.{Layer as Element};
+ghost use Rattle.region_split.specs.Moving as definition;
+
+use keyframe_sets::names;
+use page_model::{Anim, KeyframeSet, Prop, Scene};
+
+/// Whether a set names a place or a size.
+fn names_edge(set: &KeyframeSet) -> bool
+    ensures { result ≡ definition.names_edge set.now }
+{
+    names(set, Prop::Left)
+        || names(set, Prop::Top)
+        || names(set, Prop::Width)
+        || names(set, Prop::Height)
+}
+
+/// Whether the set of an animation does.
+fn moves(sets: &[KeyframeSet], anim: &Anim) -> bool
+    ensures { result ≡ definition.moves sets.now anim.now }
+{
+    match sets.get(anim.set as usize) {
+        Some(set) => names_edge(set),
+        None => false,
+    }
+}
+
+/// Whether the set of some animation does.
+fn some_moves(sets: &[KeyframeSet], anims: &[Anim]) -> bool
+    ensures { result ≡ list_any (definition.moves sets.now) anims.now }
+{
+    anims.iter().any(|anim| moves(sets, anim))
+}
+
+/// Whether a layer may move or grow.
+pub(crate) fn may_move(scene: &Scene, number: u16) -> bool
+    requires { number < length scene.now.layers }
+    ensures { (l : Element) → slice_get scene.now.layers number ≡ Some l
+        → result ≡ definition.may_move scene.now.sets l }
+{
+    let layer = &scene.layers.as_slice()[usize::from(number)];
+    some_moves(scene.sets.as_slice(), layer.anims.as_slice())
+}
