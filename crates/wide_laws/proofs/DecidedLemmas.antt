@@ -33,7 +33,7 @@ decided-lt m n = elim (cases_lt m n) [ inl less ↦ inl less | inr above ↦ inr
 decided-le : (m n : ℕ) → IsDecided (m ≤ n)
 decided-le m n = elim (cases_lt n m) [ inl above ↦ inr (λ less. omega arith) | inr below ↦ inl below ]
 
-decided-le_z : (a b : ℤ) → IsDecided (a ≤ℤ b)
+pub decided-le_z : (a b : ℤ) → IsDecided (a ≤ℤ b)
 decided-le_z a b = by_lt_z b a (λ above. inr (λ below. omega (arith, ints))) (λ below. inl below)
 
 -- some number below a limit
