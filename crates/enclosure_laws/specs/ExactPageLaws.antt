@@ -1,4 +1,4 @@
--- Pages whose easings are all `linear` or `steps`: each tint is a single colour, whatever moves or fades; and where no saturated colour
+-- Pages whose easings in use are all `linear` or `steps`: each tint is a single colour, whatever moves or fades; and where no saturated colour
 -- appears either, what is possible is sure, so no such page is left undecided by an enclosure.
 use Rattle.std.specs.Prelude.{ℕ, ℤ, ◌+◌, ◌<◌, ◌≤◌}
 use Rattle.page_model.specs.declared.scene.Scene.{Scene}
