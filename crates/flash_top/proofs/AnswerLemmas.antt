@@ -43,12 +43,12 @@ causes_agree bytes Told one other Agree (inr (inr is)) (inr (inr also)) same =
 
 -- ---- check
 
-record TellsJudgement (setup : Viewing) (scene : Scene) (outcome : Outcome) : Type 0 where
+pub record TellsJudgement (setup : Viewing) (scene : Scene) (outcome : Outcome) : Type 0 where
   pub judgement : Judgement
   pub judged : IsJudgement scene setup judgement
   pub told_is : outcome ≡ told judgement
 
-verdict_cause : (setup : Viewing) (bytes : List ℕ) (outcome : Outcome) → IsVerdict setup bytes outcome → HasCause bytes (TellsJudgement setup) outcome
+pub verdict_cause : (setup : Viewing) (bytes : List ℕ) (outcome : Outcome) → IsVerdict setup bytes outcome → HasCause bytes (TellsJudgement setup) outcome
 verdict_cause setup bytes WordsRefused h = absurd h
 verdict_cause setup bytes ReadFault h = absurd h
 verdict_cause setup bytes (Refused refusal) h = inr (inl (record { refusal = refusal; cause = h; told = refl }))

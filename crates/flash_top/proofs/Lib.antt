@@ -1,5 +1,6 @@
 pub mod AcceptedLemmas
 pub mod AnswerLemmas
+pub mod ClearLemmas
 pub mod FileLemmas
 pub mod NamedWords
 pub mod OwnTextLemmas

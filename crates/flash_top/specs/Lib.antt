@@ -1,3 +1,4 @@
+pub mod Clear
 pub mod Files
 pub mod Outcomes
 pub mod Refusals

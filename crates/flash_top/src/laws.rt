@@ -1,9 +1,12 @@
 // What holds of every page, and of every witness of it.
-ghost use Rattle.std.specs.Prelude.{ℕ, ◌≡◌, List};
+ghost use Rattle.std.specs.Prelude.{ℕ, ◌≡◌, List, map, string_bytes};
 ghost use Rattle.page_model.specs.declared.scene.Scene.{Scene as Loaded};
+ghost use Rattle.flash_top.specs.Clear.{CheckDecides, ClearPagesAreDecided};
 ghost use Rattle.flash_top.specs.Refusals.{IsLoadedAs, IsRefusal};
 ghost use Rattle.flash_top.specs.SameAnswers.{OneTint, OneVerdict, OneVerified, ToldWitnessIsAccepted};
 ghost use Rattle.flash_top.specs.declared.refusal.PageRefusal.{PageRefusal as Refusal};
+
+use flash_words::command;
 
 /// A page is refused for one cause, and then it isn't loaded.
 pub fn one_refusal()
@@ -23,3 +26,16 @@ pub fn one_answer()
 pub fn told_witness_is_accepted()
     ensures { ToldWitnessIsAccepted }
 {}
+
+/// A page within the counted bounds is passed or failed, where memory isn't refused, if no window is possibly bad by the wide kind or
+/// some window is surely bad by it, and also if all easings are `linear` or `steps` and no saturated colour appears.
+pub fn clear_pages_are_decided()
+    ensures { ClearPagesAreDecided }
+{}
+
+/// So words that spell `check` of such a page come to pass or fail, where memory isn't refused and the source counts no fault.
+pub fn check_decides(words: &[String])
+    ensures { CheckDecides (map string_bytes words.now) }
+{
+    let _command = command(words);
+}

@@ -9,7 +9,8 @@
 //! `checking` has the scene judged, `verifying` has a witness of it tested, `tinting` paints a pixel, and `telling` makes the
 //! text and writes it. `Verdicts` in `specs/` is the table of causes: it speaks of scenes, judgements and witnesses, and the
 //! crates below say what these are. A page is refused for one cause ([`one_refusal`]), the answers exclude each other
-//! ([`one_answer`]), and what `check` tells of a page that fails is accepted by `verify` ([`told_witness_is_accepted`]).
+//! ([`one_answer`]), and what `check` tells of a page that fails is accepted by `verify` ([`told_witness_is_accepted`]). A page that
+//! stands clear of the thresholds is passed or failed ([`clear_pages_are_decided`], [`check_decides`]).
 //!
 //! Over a source that tells its bytes the clause speaks of those bytes; over files of the system it keeps its
 //! causes, of whatever bytes were read, and says nothing of what a file holds. It doesn't say that memory is there, nor that
@@ -31,7 +32,9 @@ mod tinting;
 mod verifying;
 
 pub use flash_words::{Command, WordsFault, command};
-pub use laws::{one_answer, one_refusal, told_witness_is_accepted};
+pub use laws::{
+    check_decides, clear_pages_are_decided, one_answer, one_refusal, told_witness_is_accepted,
+};
 pub use outcome::Outcome;
 pub use page_loader::{LoadFault, load};
 pub use refusal::PageRefusal;

@@ -6,6 +6,8 @@ use Rattle.page_model.specs.declared.witness.Witness.{Witness}
 use Rattle.page_model.specs.Enclosure.{LooseRun, own}
 use Rattle.page_model.specs.TintOf.{IsLooseRunIn, tints_of}
 use Rattle.page_model.specs.Window.{IsSurelyBad, IsSurelyFlagged}
+use Rattle.enclosure_laws.proofs.CauseLemmas.{open-widely}
+use Rattle.enclosure_laws.proofs.ExactPageLemmas.{exact_pages-decided}
 use Rattle.frame_state.specs.Scenes.{CanBePainted}
 use Rattle.witness_laws.proofs.WitnessLemmas.{accepted_is_bad}
 use Rattle.witness_make.specs.Made.{IsMade}
@@ -62,4 +64,8 @@ undecided-of judged (reason.Enclosure start x y) ready is told = record {
   none_surely = told.none_surely;
   first = told.first;
   most = told.most;
+  widely = open-widely judged.scene judged.setup start x y ready.valid
+      (record { possibly = told.first.bad; none_surely = told.none_surely });
+  inexact = λ page. told.none_surely start x y
+      (exact_pages-decided own judged.scene judged.setup start x y ready.valid page told.first.bad);
 }

@@ -1,4 +1,5 @@
 pub mod CellLemmas
+pub mod ClearLemmas
 pub mod JudgedLemmas
 pub mod OneLemmas
 pub mod PlaceLemmas

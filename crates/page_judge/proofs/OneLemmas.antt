@@ -23,7 +23,7 @@ use Rattle.page_judge.specs.Judgement.{IsEnclosed, IsFail, IsJudgement, IsNeithe
 use Rattle.page_judge.proofs.CellLemmas.{cells-same}
 use Rattle.page_judge.proofs.PlaceLemmas.{counts-same, places-same, start-unique}
 
-needed-unique : (setup : Setup) (anims : List Anim) (one other : ℕ) → IsNeeded setup anims one → IsNeeded setup anims other → one ≡ other
+pub needed-unique : (setup : Setup) (anims : List Anim) (one other : ℕ) → IsNeeded setup anims one → IsNeeded setup anims other → one ≡ other
 needed-unique setup anims one other first second =
     let settled = IsLeast-unique _ _ _ first.horizon.settled_is second.horizon.settled_is in
     let period = IsLeast-unique _ _ _ first.horizon.period_is second.horizon.period_is in
@@ -32,7 +32,7 @@ needed-unique setup anims one other first second =
     omega arith
 
 -- so many windows are more than are looked at, or not
-few-more : (setup : Setup) (anims : List Anim) (needed : ℕ) → IsNeeded setup anims needed → needed ≤ 100000 → NeedsMore setup anims → ⊥
+pub few-more : (setup : Setup) (anims : List Anim) (needed : ℕ) → IsNeeded setup anims needed → needed ≤ 100000 → NeedsMore setup anims → ⊥
 few-more setup anims needed is few more =
     let same = needed-unique setup anims needed more.needed is more.is_needed in
     omega (arith, same, few, more.many)
@@ -114,7 +114,7 @@ encloses-same scene setup start other_start x y other_x other_y one other =
     (same, place.0, place.1)
 
 -- what excludes what
-not_yet-judged : (scene : Scene) → can_be_judged scene ≡ false → IsTrue (can_be_judged scene) → ⊥
+pub not_yet-judged : (scene : Scene) → can_be_judged scene ≡ false → IsTrue (can_be_judged scene) → ⊥
 not_yet-judged scene e t = cc
 
 bounds-frames : (scene : Scene) (setup : Setup) (needed : ℕ) → IsWithinBounds scene setup needed → IsPastFrames scene setup → ⊥

@@ -4,10 +4,12 @@ use Rattle.page_model.specs.declared.scene.Scene.{Scene}
 use Rattle.page_model.specs.declared.setup.Setup.{Setup}
 use Rattle.page_model.specs.declared.witness.Witness.{Witness}
 use Rattle.page_model.specs.Colour.{IsBadWindow, IsSafeScene}
-use Rattle.page_model.specs.Enclosure.{LooseRun, own}
+use Rattle.page_model.specs.Enclosure.{LooseRun, own, wide}
 use Rattle.page_model.specs.Horizon.{IsNeeded, all_animations, frames_for}
 use Rattle.page_model.specs.TintOf.{IsLooseRunIn, tints_of}
 use Rattle.page_model.specs.Window.{IsPossiblyBad, IsSurelyBad, IsSurelyFlagged}
+use Rattle.enclosure_laws.specs.CauseLaws.{IsLeftOpen}
+use Rattle.enclosure_laws.specs.ExactPageLaws.{IsExactPage}
 use Rattle.frame_state.specs.Scenes.{can_be_painted}
 use Rattle.period_frames.specs.Needed.{NeedsMore}
 use Rattle.region_split.specs.Cutting.{Edges, IsCut}
@@ -52,14 +54,16 @@ pub record IsFail (scene : Scene) (setup : Setup) (w : Witness) : Type 0 where
   pub form : IsInForm w
   pub bad : IsBadWindow scene setup w.start w.x w.y
 
--- no window is surely bad, from the first frame on for ever, and this is the first of all that is possibly bad, at the first position
--- where it is so most
+-- No window is surely bad, from the first frame on for ever, and this is the first of all that is possibly bad, at the first position
+-- where it is so most. So it is by the wide kind, whose looseness is stated; and the page has a curve, or a saturated colour appears.
 pub record IsEnclosed (scene : Scene) (setup : Setup) (start : ℕ) (x y : ℤ) : Type 0 where
   pub needed : ℕ
   pub bounds : IsWithinBounds scene setup needed
   pub none_surely : NoneEver (IsSurelyBad own scene setup)
   pub first : IsFirstBad (IsPossiblyBad own scene setup) needed start x y
   pub most : IsPossibleMost scene setup start x y
+  pub widely : IsLeftOpen wide scene setup start x y
+  pub inexact : IsExactPage scene setup → ⊥
 
 -- it can be judged, and more windows have to be looked at than are
 pub record IsPastFrames (scene : Scene) (setup : Setup) : Type 0 where

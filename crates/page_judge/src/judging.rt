@@ -1,6 +1,7 @@
 // What a scene comes to: whether it can be judged, and how it is.
 ghost use Rattle.std.specs.Prelude.{◌≡◌, IfOk, IsTrue};
 ghost use Rattle.page_model.specs.ValidScene.{IsValid};
+ghost use Rattle.page_judge.specs.Clear.{ClearScenesAreDecided, WorkIsTooMuchWidely};
 ghost use Rattle.page_judge.specs.Judgement as definition;
 ghost use Rattle.page_judge.specs.Judgement.{IsFail, IsJudgement, OneJudgement, judgement_for};
 ghost use Rattle.sweep.specs.Verdicts as verdict;
@@ -90,4 +91,12 @@ pub fn judge(alloc: Global, scene: Scene, setup: Setup) -> Result<Judgement, NoM
 /// alone, would be refused.
 pub fn one_judgement()
     ensures { OneJudgement }
+{}
+
+/// Within the counted bounds a scene passes or fails where no window is possibly bad by the wide kind, or some window is surely bad by
+/// it; and so it does where all easings are `linear` or `steps` and no saturated colour appears. Too many cells in the frames are too
+/// many by the wide kind. Causes that let such a scene be left open, or count cells that the wide kind doesn't, would be refused.
+pub fn clear_scenes_are_decided()
+    ensures decided { ClearScenesAreDecided }
+    ensures work { WorkIsTooMuchWidely }
 {}

@@ -3,7 +3,8 @@
 //! The top asks [`judge`] once a page is loaded. It opens a sweep, runs it, and where a window is bad has its witness made. The key
 //! clause is `IsJudgement`: a pass means that no window of the scene is bad, from the first frame on for ever; a fail, that the witness
 //! tells the first window that is surely bad, meets all nine conditions, and that the window is bad; each other answer comes by its own
-//! cause. The answers exclude each other, by each window wherever it starts: [`one_judgement`] is the law.
+//! cause. The answers exclude each other, by each window wherever it starts: [`one_judgement`] is the law. And a scene that stands clear
+//! of the thresholds is decided within the counted bounds: [`clear_scenes_are_decided`].
 //!
 //! It speaks of scenes, verdicts and witnesses alone: how a page is read, and how an answer is told, is the top's to say. Scenes with
 //! curves or moving boxes aren't judged yet.
@@ -12,5 +13,5 @@
 mod judging;
 mod types;
 
-pub use judging::{can_be_judged, judge, one_judgement};
+pub use judging::{can_be_judged, clear_scenes_are_decided, judge, one_judgement};
 pub use types::Judgement;

@@ -4,9 +4,7 @@ use Rattle.std.specs.List.Sorted.{IsStrictlyIncreasing}
 use Rattle.std.proofs.lemmas.Bool.{agree_below_at, and_parts}
 use Rattle.std.proofs.lemmas.Int.{ints}
 use Rattle.std.proofs.lemmas.List.Elements.{All-cons, All-from_get_or}
-use Rattle.page_model.specs.declared.animation.Anim.{Anim}
 use Rattle.page_model.specs.declared.keyframe.Keyframe.{Keyframe}
-use Rattle.page_model.specs.declared.keyframe.KeyframeSet.{KeyframeSet}
 use Rattle.page_model.specs.declared.scene.Layer.{Layer}
 use Rattle.page_model.specs.declared.colour.Rgb.{Rgb}
 use Rattle.page_model.specs.Colour.{IsRunIn, Run, over, painting_of}
@@ -16,8 +14,8 @@ use Rattle.page_model.specs.Light.{IsRise}
 use Rattle.page_model.specs.Red.{white}
 use Rattle.page_model.specs.ValidScene.{IsAnimation, IsValid}
 use Rattle.srgb_luma.proofs.LumaLemmas.{luma_of-black, luma_of-white}
-use Rattle.safety_laws.specs.ComputedLaws.{HasNoCurve, IsNoCurve}
-use Rattle.state_laws.specs.ExamplePage.{body_with, keyed, opaque_black, opaque_white, turns_white}
+use Rattle.safety_laws.specs.ComputedLaws.{HasNoCurve, IsNoCurve, IsStraight}
+use Rattle.state_laws.specs.ExamplePage.{body_with, keyed, opaque_black, opaque_white}
 use Rattle.safety_laws.specs.StillLaws.{BlinkingIsBad, blinking_page, blinks, ten_a_second}
 use Rattle.safety_laws.proofs.ComputedLemmas.{state-computed}
 use Rattle.state_laws.proofs.ExamplePageLemmas.{between, only, page-valid}
@@ -38,12 +36,12 @@ abbrev HasNone : Keyframe → Type 0
 HasNone frame = IfSome frame.easing IsNoCurve
 
 no_curve : HasNoCurve blinking_page
-no_curve = record {
-  animations = only (λ (layer : Layer). All (λ (anim : Anim). IsNoCurve anim.easing) layer.anims) (body_with blinks)
-      (only (λ (anim : Anim). IsNoCurve anim.easing) blinks tt);
-  keyframes = only (λ (set : KeyframeSet). All HasNone set.frames) (turns_white 5000)
-      (All-cons HasNone (keyed 0 opaque_black) (keyed 5000 opaque_white ∷ []) tt (only HasNone (keyed 5000 opaque_white) tt));
-}
+no_curve =
+    only (λ (layer : Layer). All (IsStraight blinking_page.sets) layer.anims) (body_with blinks)
+    (only (IsStraight blinking_page.sets) blinks (record {
+      own = tt;
+      keyframes = All-cons HasNone (keyed 0 opaque_black) (keyed 5000 opaque_white ∷ []) tt (only HasNone (keyed 5000 opaque_white) tt);
+    }))
 
 -- a body over the canvas
 abbrev on_white : State → Rgb

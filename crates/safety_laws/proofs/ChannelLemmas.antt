@@ -1,12 +1,12 @@
 -- A channel between two colours, where the easing is no curve: the premultiplied channel over the alpha, by whole numbers alone.
-use Rattle.std.proofs.Common.{◌≡◌, ◌↔◌, ℕ, zero, suc, ◌+◌, ◌*◌, ◌<◌, ◌≤◌, ℤ, pos, negsuc, neg_ℤ, ◌+ℤ◌, ◌-ℤ◌, ◌*ℤ◌, ◌≤ℤ◌, ◌<ℤ◌, int_le, false, arith, refl, sym, subst}
+use Rattle.std.proofs.Common.{◌≡◌, ◌↔◌, ℕ, zero, suc, ◌+◌, ◌*◌, ◌≤◌, ℤ, pos, negsuc, neg_ℤ, ◌+ℤ◌, ◌-ℤ◌, ◌*ℤ◌, ◌≤ℤ◌, ◌<ℤ◌, int_le, false, arith, refl, sym, subst}
 use Rattle.std.specs.Int.{int_div_euclid}
-use Rattle.std.proofs.lemmas.Int.{ints, clamps, by_lt_z}
+use Rattle.std.proofs.lemmas.Int.{ints, clamps}
 use Rattle.page_model.specs.declared.easing.Easing.{Easing}
 use Rattle.page_model.specs.declared.easing.Easing.TheVariants.{Linear, Steps, Cubic}
 use Rattle.page_model.specs.Curve.{FractionReaches, eased, stepped}
 use Rattle.page_model.specs.Fraction.{Fraction}
-use Rattle.page_model.specs.Slot.{Shade, IsChannelValue, IsGone, IsGreatestLevel, RoundsToLevel, between, channel_value, due, excess, fading, gain, held_level, over_alpha, premultiplied}
+use Rattle.page_model.specs.Slot.{Shade, IsChannelValue, IsGreatestLevel, between, channel_value, due, fading, gain, held_level, over_alpha, premultiplied}
 use Rattle.safety_laws.specs.ComputedLaws.{ChannelIsComputed, IsNoCurve}
 use Rattle.safety_laws.proofs.RoundingLemmas.{div-greatest}
 use Rattle.state_laws.proofs.UniqueLemmas.{channel-unique}

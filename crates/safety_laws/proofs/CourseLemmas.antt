@@ -17,8 +17,8 @@ use Rattle.page_model.specs.Fraction.{Fraction}
 use Rattle.page_model.specs.Keyframes.{Interval, Stop, added_at, has_stop_at, interval_of, is_reached, last_of, stop_of, stops_of, value_in, whole}
 use Rattle.page_model.specs.LayerAt.{Course, still, moving, course_by, course_of, declared, interval_at, is_held}
 use Rattle.page_model.specs.Progress.{progress_of}
-use Rattle.page_model.specs.ValidScene.{IsEasing, IsLayer, IsValid}
-use Rattle.safety_laws.specs.ComputedLaws.{HasNoCurve, IsNoCurve}
+use Rattle.page_model.specs.ValidScene.{IsEasing, IsLayer, IsSetInUse, IsValid}
+use Rattle.safety_laws.specs.ComputedLaws.{HasNoCurve, IsNoCurve, IsStraight}
 use Rattle.fraction_laws.specs.FractionLaws.{IsPart}
 use Rattle.fraction_laws.proofs.FractionLemmas.{interval-found, distance-is_part, progress-part, stepped-part}
 use Rattle.fraction_laws.proofs.ListLemmas.{mapped_some, All-filter_map, All-slice_get}
@@ -83,19 +83,24 @@ eased-positive Linear at plain part = part.positive
 eased-positive (Steps count jump) at plain part = (stepped-part count jump at plain.valid).positive
 eased-positive (Cubic x1 y1 x2 y2) at plain part = absurd plain.straight
 
--- an animation's interval is such
+-- an animation and the keyframes of its set are eased by easings of some sort
+record IsEasedBy (Good : Easing → Type 0) (sets : List KeyframeSet) (anim : Anim) : Type 0 where
+  own : Good anim.easing
+  keyframes : IfSome (slice_get sets anim.set) (λ (set : KeyframeSet). All (λ (key : Keyframe). IfSome key.easing Good) set.frames)
+
+-- its interval is such
 interval-sound :
     (Good : Easing → Type 0) (sets : List KeyframeSet) (setup : Setup) (frame : ℕ) (prop : Prop) (own : Value) (anim : Anim) (interval : Interval)
-    → All (λ (set : KeyframeSet). All (λ (key : Keyframe). IfSome key.easing Good) set.frames) sets → Good anim.easing
-    → interval_at sets setup frame prop own anim ≡ Some interval → IsSoundInterval Good interval
-interval-sound Good sets setup frame prop own anim interval all plain e =
+    → IsEasedBy Good sets anim → interval_at sets setup frame prop own anim ≡ Some interval → IsSoundInterval Good interval
+interval-sound Good sets setup frame prop own anim interval eased e =
     option_and_then_some
     (λ (set : KeyframeSet). option_and_then (interval_of set.frames prop own anim.easing) (progress_of setup anim frame))
     (slice_get sets anim.set) interval e
     (λ set set_is rest. option_and_then_some (interval_of set.frames prop own anim.easing) (progress_of setup anim frame) interval rest
     (λ at at_is here. record {
       easing = interval-easing Good set.frames prop own anim.easing at interval
-          (All-slice_get (λ (s : KeyframeSet). All (λ (key : Keyframe). IfSome key.easing Good) s.frames) sets anim.set set all set_is) plain here;
+          (subst (λ (o : Option KeyframeSet). IfSome o (λ (s : KeyframeSet). All (λ (key : Keyframe). IfSome key.easing Good) s.frames)) set_is eased.keyframes)
+          eased.own here;
       distance = distance-is_part set.frames prop own anim.easing at interval (progress-part setup anim frame at at_is) here;
     }))
 
@@ -119,38 +124,59 @@ sound-by Good own (Some interval) each = each interval refl
 
 course-sound :
     (Good : Easing → Type 0) (scene : Scene) (setup : Setup) (frame : ℕ) (layer : Layer) (prop : Prop)
-    → All (λ (set : KeyframeSet). All (λ (key : Keyframe). IfSome key.easing Good) set.frames) scene.sets
-    → All (λ (anim : Anim). Good anim.easing) layer.anims → SoundOn Good (course_of scene setup frame layer prop)
-course-sound Good scene setup frame layer prop sets anims =
+    → All (IsEasedBy Good scene.sets) layer.anims → SoundOn Good (course_of scene setup frame layer prop)
+course-sound Good scene setup frame layer prop anims =
     let own : Value = declared layer prop in
     let intervals : List Interval = filter_map (interval_at scene.sets setup frame prop own) layer.anims in
     let all = All-filter_map (interval_at scene.sets setup frame prop own) (IsSoundInterval Good) layer.anims
-    (λ k d within interval e. interval-sound Good scene.sets setup frame prop own (get_or layer.anims k d) interval sets (anims k d within) e) in
+    (λ k d within interval e. interval-sound Good scene.sets setup frame prop own (get_or layer.anims k d) interval (anims k d within) e) in
     sound-if Good (is_held layer.important prop) own (course_by own (last_of intervals))
     (sound-by Good own (last_of intervals) (λ interval e. All-slice_get (IsSoundInterval Good) intervals (length intervals - 1) interval all e))
 
+-- what holds of the element that a list has holds where it has one
+some-of : {X : Type 0} (P : X → Type 0) (o : Option X) → ((x : X) → o ≡ Some x → P x) → IfSome o P
+some-of P None each = tt
+some-of P (Some x) each = each x refl
+
 -- in a valid scene each easing is in its limits
+eased-valid : (scene : Scene) (layer : Layer) → IsValid scene → IsLayer (length scene.sets) layer → All (IsEasedBy IsEasing scene.sets) layer.anims
+eased-valid scene layer valid in_use k d within = record {
+  own = (in_use.animations k d within).easing;
+  keyframes = some-of (λ (set : KeyframeSet). All (λ (key : Keyframe). IfSome key.easing IsEasing) set.frames)
+      (slice_get scene.sets (get_or layer.anims k d).set)
+      (λ set e j key inside.
+      let good : IsSetInUse set = All-slice_get IsSetInUse scene.sets (get_or layer.anims k d).set set valid.sets e in
+      (good.is_set.frames j key inside).easing);
+}
+
 pub scene-sound :
     (scene : Scene) (setup : Setup) (frame number : ℕ) (layer : Layer) (prop : Prop) → IsValid scene
     → slice_get scene.layers number ≡ Some layer → SoundOn IsEasing (course_of scene setup frame layer prop)
 scene-sound scene setup frame number layer prop valid e =
     let in_use : IsLayer (length scene.sets) layer = All-slice_get (IsLayer (length scene.sets)) scene.layers number layer valid.layers e in
-    course-sound IsEasing scene setup frame layer prop
-    (λ k d within j key inside. ((valid.sets k d within).is_set.frames j key inside).easing)
-    (λ k d within. (in_use.animations k d within).easing)
+    course-sound IsEasing scene setup frame layer prop (eased-valid scene layer valid in_use)
 
 -- a valid scene without curves has plain easings alone
 plain-some : (o : Option Easing) → IfSome o IsEasing → IfSome o IsNoCurve → IfSome o IsPlain
 plain-some None valid straight = tt
 plain-some (Some easing) valid straight = record { straight = straight; valid = valid }
 
+plain-keyframes :
+    (o : Option KeyframeSet) → IfSome o (λ (set : KeyframeSet). All (λ (key : Keyframe). IfSome key.easing IsEasing) set.frames)
+    → IfSome o (λ (set : KeyframeSet). All (λ (key : Keyframe). IfSome key.easing IsNoCurve) set.frames)
+    → IfSome o (λ (set : KeyframeSet). All (λ (key : Keyframe). IfSome key.easing IsPlain) set.frames)
+plain-keyframes None valid straight = tt
+plain-keyframes (Some set) valid straight =
+    λ k d within. plain-some (get_or set.frames k d).easing (valid k d within) (straight k d within)
+
 pub scene-plain :
     (scene : Scene) (setup : Setup) (frame number : ℕ) (layer : Layer) (prop : Prop) → IsValid scene → HasNoCurve scene
     → slice_get scene.layers number ≡ Some layer → IsPlainOn (course_of scene setup frame layer prop)
 scene-plain scene setup frame number layer prop valid none e =
     let in_use : IsLayer (length scene.sets) layer = All-slice_get (IsLayer (length scene.sets)) scene.layers number layer valid.layers e in
-    let straight = All-slice_get (λ (l : Layer). All (λ (anim : Anim). IsNoCurve anim.easing) l.anims) scene.layers number layer none.animations e in
-    course-sound IsPlain scene setup frame layer prop
-    (λ k d within j key inside. plain-some (get_or (get_or scene.sets k d).frames j key).easing
-    ((valid.sets k d within).is_set.frames j key inside).easing (none.keyframes k d within j key inside))
-    (λ k d within. record { straight = straight k d within; valid = (in_use.animations k d within).easing })
+    let limits = eased-valid scene layer valid in_use in
+    let straight = All-slice_get (λ (l : Layer). All (IsStraight scene.sets) l.anims) scene.layers number layer none e in
+    course-sound IsPlain scene setup frame layer prop (λ k d within. record {
+      own = record { straight = (straight k d within).own; valid = (limits k d within).own };
+      keyframes = plain-keyframes (slice_get scene.sets (get_or layer.anims k d).set) (limits k d within).keyframes (straight k d within).keyframes;
+    })

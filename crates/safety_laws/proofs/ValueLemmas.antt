@@ -1,5 +1,5 @@
 -- The values between which a course is are those of the keyframes that name the property, or the layer's own.
-use Rattle.std.proofs.Common.{◌≡◌, ℕ, suc, ◌-◌, Bool, true, false, not, List, [], ◌∷◌, ◌++◌, All, Option, Some, None, filter, filter_map, find, get_or, length, slice_get, if◌then◌else◌, option_and_then, arith, inl, inr, refl, subst}
+use Rattle.std.proofs.Common.{◌≡◌, ℕ, ◌-◌, Bool, true, false, not, List, [], ◌∷◌, ◌++◌, All, Option, Some, None, filter, filter_map, find, get_or, length, slice_get, if◌then◌else◌, option_and_then, arith, inl, inr, refl, subst}
 use Rattle.std.proofs.lemmas.Bool.{cases_Bool}
 use Rattle.std.proofs.lemmas.List.Elements.{All-append, All-cons, All-filter, All-head, All-tail}
 use Rattle.std.proofs.lemmas.Option.{option_and_then_some}

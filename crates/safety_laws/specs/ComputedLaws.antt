@@ -1,5 +1,5 @@
 -- Where no easing is a curve, what the relations say is computed.
-use Rattle.std.specs.Prelude.{ℕ, ℤ, Bool, ◌≡◌, ◌↔◌, ◌<◌, ◌≤ℤ◌, Some, All, IfSome, slice_get, option_map, unwrap_or}
+use Rattle.std.specs.Prelude.{ℕ, ℤ, Bool, ◌≡◌, ◌↔◌, ◌<◌, ◌≤ℤ◌, List, Some, All, IfSome, slice_get, option_map, unwrap_or}
 use Rattle.page_model.specs.declared.setup.Setup.{Setup}
 use Rattle.page_model.specs.declared.animation.Anim.{Anim}
 use Rattle.page_model.specs.declared.easing.Easing.{Easing}
@@ -42,10 +42,14 @@ ShownIsComputed =
     (easing : Easing) (at : Fraction) (from to shown : Bool) → IsNoCurve easing
     → (IsShownValue easing at from to shown ↔ (shown ≡ shown_value from to (eased easing at)))
 
--- a scene without curves: of its animations, and of its keyframes
-pub record HasNoCurve (scene : Scene) : Type 0 where
-  pub animations : All (λ (layer : Layer). All (λ (anim : Anim). IsNoCurve anim.easing) layer.anims) scene.layers
-  pub keyframes : All (λ (set : KeyframeSet). All (λ (frame : Keyframe). IfSome frame.easing IsNoCurve) set.frames) scene.sets
+-- an animation is eased without a curve: by its own easing, and by those of the keyframes of its set
+pub record IsStraight (sets : List KeyframeSet) (anim : Anim) : Type 0 where
+  pub own : IsNoCurve anim.easing
+  pub keyframes : IfSome (slice_get sets anim.set) (λ (set : KeyframeSet). All (λ (frame : Keyframe). IfSome frame.easing IsNoCurve) set.frames)
+
+-- a scene without curves: each animation of a layer is eased so, whatever a set has that none uses
+abbrev pub HasNoCurve : Scene → Type 0
+HasNoCurve scene = All (λ (layer : Layer). All (IsStraight scene.sets) layer.anims) scene.layers
 
 -- a layer of such a scene has, in each frame, the state that is computed, and no other
 abbrev pub StateIsComputed : Type 0

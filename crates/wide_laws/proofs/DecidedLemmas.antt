@@ -13,27 +13,27 @@ use Rattle.page_model.specs.Time.{window_of}
 use Rattle.wide_laws.specs.DecidedLaws.{BadIsDecided, IsDecided}
 
 -- facts made of decided ones
-decided-from : {P Q : Type 0} → (P → Q) → (Q → P) → IsDecided P → IsDecided Q
+pub decided-from : {P Q : Type 0} → (P → Q) → (Q → P) → IsDecided P → IsDecided Q
 decided-from there back (inl p) = inl (there p)
 decided-from there back (inr none) = inr (λ q. none (back q))
 
-decided-both : {P Q : Type 0} → IsDecided P → IsDecided Q → IsDecided (P × Q)
+pub decided-both : {P Q : Type 0} → IsDecided P → IsDecided Q → IsDecided (P × Q)
 decided-both (inl p) (inl q) = inl (p, q)
 decided-both (inl p) (inr none) = inr (λ h. none h.1)
 decided-both (inr none) other = inr (λ h. none h.0)
 
-decided-either : {P Q : Type 0} → IsDecided P → IsDecided Q → IsDecided (P ⊎ Q)
+pub decided-either : {P Q : Type 0} → IsDecided P → IsDecided Q → IsDecided (P ⊎ Q)
 decided-either (inl p) other = inl (inl p)
 decided-either (inr none) (inl q) = inl (inr q)
 decided-either (inr none) (inr nor) = inr (elim [ inl p ↦ none p | inr q ↦ nor q ])
 
-decided-lt : (m n : ℕ) → IsDecided (m < n)
+pub decided-lt : (m n : ℕ) → IsDecided (m < n)
 decided-lt m n = elim (cases_lt m n) [ inl less ↦ inl less | inr above ↦ inr (λ less. omega arith) ]
 
 decided-le : (m n : ℕ) → IsDecided (m ≤ n)
 decided-le m n = elim (cases_lt n m) [ inl above ↦ inr (λ less. omega arith) | inr below ↦ inl below ]
 
-decided-le_z : (a b : ℤ) → IsDecided (a ≤ℤ b)
+pub decided-le_z : (a b : ℤ) → IsDecided (a ≤ℤ b)
 decided-le_z a b = by_lt_z b a (λ above. inr (λ below. omega (arith, ints))) (λ below. inl below)
 
 -- some number below a limit
@@ -182,9 +182,9 @@ begins-from Up Down start window (a ∷ rest) chain =
     turned Up Down start window a rest long rises within (inr down) =
         inr (list-follows Down Up (start + window) 8 a rest long (chain-path Down Up start (start + window) a rest rises within down))
 
-decided-chain :
-    (Up Down : Rgb → Rgb → Type 0) (seen : ℕ → Rgb) (start window : ℕ) → ((a b : Rgb) → IsDecided (Up a b))
-    → ((a b : Rgb) → IsDecided (Down a b)) → IsDecided (HasChain Up Down seen start window)
+pub decided-chain :
+    {C : Type 0} (Up Down : C → C → Type 0) (seen : ℕ → C) (start window : ℕ) → ((a b : C) → IsDecided (Up a b))
+    → ((a b : C) → IsDecided (Down a b)) → IsDecided (HasChain Up Down seen start window)
 decided-chain Up Down seen start window up down =
     decided-from
     (λ (h : (a : ℕ) × (a < suc (start + window)) × Begins (Between Up seen) (Between Down seen) start (start + window) a).
@@ -197,13 +197,13 @@ decided-chain Up Down seen start window up down =
     (suc (start + window)))
 
 -- each change is decided
-decided-rise : (a b : Rgb) → IsDecided (IsRise a b)
+pub decided-rise : (a b : Rgb) → IsDecided (IsRise a b)
 decided-rise a b =
     decided-from (λ (h : (luma_of a + 1000 * 2 ^ 32 ≤ luma_of b) × (luma_of a < 8000 * 2 ^ 32)). record { by_a_tenth = h.0; from_below = h.1 })
     (λ rise. (rise.by_a_tenth, rise.from_below))
     (decided-both (decided-le (luma_of a + 1000 * 2 ^ 32) (luma_of b)) (decided-lt (luma_of a) (8000 * 2 ^ 32)))
 
-decided-saturated : (c : Rgb) → IsDecided (IsSaturated c)
+pub decided-saturated : (c : Rgb) → IsDecided (IsSaturated c)
 decided-saturated c =
     decided-from (λ (h : (4 * (linear_of c.g + linear_of c.b) ≤ linear_of c.r) × (0 < linear_of c.r)). record { mostly = h.0; some = h.1 })
     (λ red. (red.mostly, red.some))
@@ -229,7 +229,7 @@ decided-flashes seen start window =
     decided-either (decided-chain IsRise IsFall seen start window decided-rise (λ a b. decided-rise b a))
     (decided-chain IsIntoRed IsOutOfRed seen start window decided-into decided-out)
 
-decided-inside : (x y : ℤ) (column row : ℕ) → IsDecided (IsInRectangle x y column row)
+pub decided-inside : (x y : ℤ) (column row : ℕ) → IsDecided (IsInRectangle x y column row)
 decided-inside x y column row =
     decided-from
     (λ (h : (x ≤ℤ pos column) × ((pos column ≤ℤ (x +ℤ pos 340)) × ((y ≤ℤ pos row) × (pos row ≤ℤ (y +ℤ pos 255))))).
@@ -269,7 +269,7 @@ area-mono w h marks more implied =
     (λ row. mark-mono (marks column row) (more column row) (implied column row)))
 
 -- all flagged pixels of the rectangle are marked, and counted
-many-decided :
+pub many-decided :
     (Flagged : ℕ → ℕ → Type 0) (setup : Setup) (x y : ℤ) (both : (column row : ℕ) → IsDecided (Flagged column row × IsInRectangle x y column row))
     → IsDecided (HasManyFlagged Flagged setup x y)
 many-decided Flagged setup x y both =

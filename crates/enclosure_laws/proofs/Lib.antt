@@ -1,0 +1,4 @@
+pub mod CauseLemmas
+pub mod DecidedTintLemmas
+pub mod ExactPageLemmas
+pub mod SingleLemmas
