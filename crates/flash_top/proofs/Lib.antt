@@ -1,6 +1,8 @@
 pub mod AcceptedLemmas
 pub mod AnswerLemmas
+pub mod DemoLemmas
 pub mod FileLemmas
+pub mod LightLemmas
 pub mod NamedWords
 pub mod OwnTextLemmas
 pub mod RefusalLemmas

@@ -1,4 +1,6 @@
+pub mod Demos
 pub mod Files
+pub mod Lighting
 pub mod Outcomes
 pub mod Refusals
 pub mod SameAnswers
