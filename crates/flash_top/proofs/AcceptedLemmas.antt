@@ -12,7 +12,7 @@ use Rattle.witness_text.proofs.ReadLemmas.{one_witness}
 use Rattle.flash_top.specs.SameAnswers.{AreEqual, OneVerified, TellFaults}
 use Rattle.flash_top.specs.Verdicts.{HasNoWitness, HasWitness, IsGoodWitness, IsNoWitness, IsVerdict, IsVerified, IsWitnessFile}
 use Rattle.flash_top.specs.declared.outcome.Outcome.{Outcome}
-use Rattle.flash_top.specs.declared.outcome.Outcome.TheVariants.{WordsRefused, ReadFault, Refused, NotYet, Pass, Fail, TooManyFrames, TooMuchWork, Enclosed, NoWitness, Unaccepted, Accepted, Painted, NoMemory}
+use Rattle.flash_top.specs.declared.outcome.Outcome.TheVariants.{WordsRefused, ReadFault, Refused, NotYet, Pass, Fail, TooManyFrames, TooMuchWork, Enclosed, NoWitness, Unaccepted, Accepted, Painted, Lit, Shown, NoMemory}
 use Rattle.flash_top.proofs.AnswerLemmas.{HasCause, causes_agree}
 
 -- what an outcome tells of a scene and the bytes of a witness
@@ -54,6 +54,8 @@ verified_cause setup bytes text (Unaccepted fault) h = inr (inr (record { scene 
 verified_cause setup bytes text (Accepted start area) h =
     inr (inr (record { scene = h.scene; loaded = h.loaded; tells = inr (inr (record { start = start; area = area; has = h.holds; told_is = refl })) }))
 verified_cause setup bytes text (Painted tint) h = absurd h
+verified_cause setup bytes text (Lit light) h = absurd h
+verified_cause setup bytes text (Shown number judgement) h = absurd h
 verified_cause setup bytes text NoMemory h = inl refl
 
 -- a scene that can be judged isn't one that can't

@@ -16,7 +16,7 @@ use Rattle.flash_top.specs.Steps.{IsRefusedAs, told}
 use Rattle.flash_top.specs.Verdicts.{IsTinted, IsVerdict}
 use Rattle.flash_words.specs.Words.{Spot}
 use Rattle.flash_top.specs.declared.outcome.Outcome.{Outcome}
-use Rattle.flash_top.specs.declared.outcome.Outcome.TheVariants.{WordsRefused, ReadFault, Refused, NotYet, Pass, Fail, TooManyFrames, TooMuchWork, Enclosed, NoWitness, Unaccepted, Accepted, Painted, NoMemory}
+use Rattle.flash_top.specs.declared.outcome.Outcome.TheVariants.{WordsRefused, ReadFault, Refused, NotYet, Pass, Fail, TooManyFrames, TooMuchWork, Enclosed, NoWitness, Unaccepted, Accepted, Painted, Lit, Shown, NoMemory}
 use Rattle.flash_top.proofs.RefusalLemmas.{loaded_once, one_cause, refused_or_loaded}
 
 -- what an outcome tells of bytes: want of memory, a refusal, or something of their scene
@@ -62,6 +62,8 @@ verdict_cause setup bytes NoWitness h = absurd h
 verdict_cause setup bytes (Unaccepted fault) h = absurd h
 verdict_cause setup bytes (Accepted start area) h = absurd h
 verdict_cause setup bytes (Painted tint) h = absurd h
+verdict_cause setup bytes (Lit light) h = absurd h
+verdict_cause setup bytes (Shown number judgement) h = absurd h
 verdict_cause setup bytes NoMemory h = inl refl
 
 pub one_verdict : OneVerdict
@@ -98,6 +100,8 @@ tint_cause setup spot bytes NoWitness h = absurd h
 tint_cause setup spot bytes (Unaccepted fault) h = absurd h
 tint_cause setup spot bytes (Accepted start area) h = absurd h
 tint_cause setup spot bytes (Painted tint) h = inr (inr (record { scene = h.scene; loaded = h.loaded; tells = inr (h.holds.painted, ap Painted h.holds.computed) }))
+tint_cause setup spot bytes (Lit light) h = absurd h
+tint_cause setup spot bytes (Shown number judgement) h = absurd h
 tint_cause setup spot bytes NoMemory h = inl refl
 
 same_tint : (setup : Viewing) (spot : Spot) (one other : Outcome) (scene : Scene) → TellsTint setup spot scene one → TellsTint setup spot scene other → AreEqual one other ⊎ ⊥

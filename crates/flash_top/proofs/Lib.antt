@@ -1,7 +1,9 @@
 pub mod AcceptedLemmas
 pub mod AnswerLemmas
 pub mod ClearLemmas
+pub mod DemoLemmas
 pub mod FileLemmas
+pub mod LightLemmas
 pub mod NamedWords
 pub mod OwnTextLemmas
 pub mod RefusalLemmas

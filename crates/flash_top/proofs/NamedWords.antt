@@ -9,13 +9,15 @@ use Rattle.flash_top.specs.Verdicts.{IsVerified}
 use Rattle.flash_words.specs.Words.{NamesFile, Spells, word_at}
 use Rattle.flash_top.specs.declared.outcome.Outcome.{Outcome}
 use Rattle.flash_words.specs.declared.words.Command.{Command}
-use Rattle.flash_words.specs.declared.words.Command.TheVariants.{Check, Verify, Tint}
+use Rattle.flash_words.specs.declared.words.Command.TheVariants.{Check, Verify, Tint, Light, Demo}
 
 named_within : (words : List (List ℕ)) (command : Command) (place : ℕ) → Spells words command → NamesFile command place → place < length words
 named_within words (Check page setup) place w is = let long = ap length w.words_are in omega (arith, long, w.page_is, is)
 named_within words (Verify page witness setup) place w (inl is) = let long = ap length w.words_are in omega (arith, long, w.page_is, is)
 named_within words (Verify page witness setup) place w (inr is) = let long = ap length w.words_are in omega (arith, long, w.witness_is, is)
 named_within words (Tint page setup frame x y) place w is = let long = ap length w.words_are in omega (arith, long, w.page_is, is)
+named_within words (Light colour) place w is = absurd is
+named_within words (Demo number setup) place w is = absurd is
 
 -- the text of a word that a command names is the word at its place
 pub word_named : {X : Type 0} (f : X → List ℕ) (xs : List X) (command : Command) (place : ℕ) (x : X) (name : List ℕ) → Spells (map f xs) command

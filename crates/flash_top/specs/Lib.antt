@@ -1,5 +1,7 @@
 pub mod Clear
+pub mod Demos
 pub mod Files
+pub mod Lighting
 pub mod Outcomes
 pub mod Refusals
 pub mod SameAnswers

@@ -1,13 +1,16 @@
 -- When two outcomes are the same answer, want of memory apart.
 use Rattle.std.specs.Prelude.{ℕ, ◌≡◌, ◌⊎◌, List}
 use Rattle.page_model.specs.Viewing.{Viewing}
+use Rattle.page_model.specs.declared.colour.Rgb.{Rgb}
 use Rattle.page_model.specs.declared.witness.Witness.{Witness}
 use Rattle.page_judge.specs.Judgement.{IsSameAnswer}
 use Rattle.page_judge.specs.declared.types.Judgement.{Judgement}
 use Rattle.witness_checks.specs.Faults.{condition_of}
 use Rattle.witness_checks.specs.declared.fault.WitnessFault.{WitnessFault}
+use Rattle.flash_top.specs.Demos.{IsDemo}
+use Rattle.flash_top.specs.Lighting.{IsLit}
 use Rattle.flash_top.specs.Steps.{told}
-use Rattle.flash_top.specs.Texts.{text_of}
+use Rattle.flash_top.specs.Texts.{status_of, text_of}
 use Rattle.flash_top.specs.Verdicts.{IsTinted, IsVerdict, IsVerified}
 use Rattle.flash_words.specs.Words.{Spot}
 use Rattle.flash_top.specs.declared.outcome.Outcome.{Outcome}
@@ -50,6 +53,21 @@ abbrev pub OneTint : Type 0
 OneTint =
     (setup : Viewing) (spot : Spot) (bytes : List ℕ) (one other : Outcome) → IsTinted setup spot bytes one → IsTinted setup spot bytes other
     → AreEqual one other
+
+-- a colour comes to one answer by `light`
+abbrev pub OneLight : Type 0
+OneLight = (colour : Rgb) (one other : Outcome) → IsLit colour one → IsLit colour other → AreEqual one other
+
+-- two outcomes are told by one text, with one status
+pub record AreToldAlike (one other : Outcome) : Type 0 where
+  pub text : text_of other ≡ text_of one
+  pub status : status_of other ≡ status_of one
+
+-- a number is told by one text by `demo`
+abbrev pub OneDemo : Type 0
+OneDemo =
+    (setup : Viewing) (number : ℕ) (one other : Outcome) → IsDemo setup number one → IsDemo setup number other
+    → (one ≡ NoMemory) ⊎ ((other ≡ NoMemory) ⊎ AreToldAlike one other)
 
 -- `verify` accepts the line that tells a page that fails, as the file of a witness of that page at the same setup
 abbrev pub ToldWitnessIsAccepted : Type 0

@@ -1,9 +1,9 @@
 -- What is written for each outcome, and the status that the run ends with.
-use Rattle.std.specs.Prelude.{ℕ, ◌≡◌, ◌⊎◌, List, [], ◌∷◌, ◌++◌, codes, decimal, if◌then◌else◌}
+use Rattle.std.specs.Prelude.{ℕ, ℤ, ◌≡◌, ◌⊎◌, List, [], ◌∷◌, ◌++◌, codes, decimal, if◌then◌else◌}
 use Rattle.std.specs.Fmt.{signed_decimal}
 use Rattle.witness_checks.specs.Faults.{condition_of}
 use Rattle.flash_top.specs.declared.outcome.Outcome.{Outcome}
-use Rattle.flash_top.specs.declared.outcome.Outcome.TheVariants.{WordsRefused, ReadFault, Refused, NotYet, Pass, Fail, TooManyFrames, TooMuchWork, Enclosed, NoWitness, Unaccepted, Accepted, Painted, NoMemory}
+use Rattle.flash_top.specs.declared.outcome.Outcome.TheVariants.{WordsRefused, ReadFault, Refused, NotYet, Pass, Fail, TooManyFrames, TooMuchWork, Enclosed, NoWitness, Unaccepted, Accepted, Painted, Lit, Shown, NoMemory}
 use Rattle.flash_top.specs.declared.refusal.PageRefusal.{PageRefusal}
 use Rattle.flash_top.specs.declared.refusal.PageRefusal.TheVariants.{TooLong, BadText, TooManyBoxes, BadSheet, UnknownProperty, BadValue, BadKeyframes, OverLimit, NotPlaced, BodyProperty, TooManyAnimations}
 use Rattle.flash_top.specs.declared.status.Status.{Status}
@@ -11,7 +11,11 @@ use Rattle.flash_top.specs.declared.status.Status.TheVariants as status
 use Rattle.witness_text.specs.TintText.{colour_text, is_single}
 use Rattle.witness_text.specs.WitnessForm.{IsToldRate}
 use Rattle.witness_text.specs.WitnessText.{witness_text}
+use Rattle.page_judge.specs.declared.types.Judgement.{Judgement}
+use Rattle.page_judge.specs.declared.types.Judgement.TheVariants.{NotYet as Unjudged, Pass as Passed, Fail as Failed, Frames, Work, Enclosure}
 use Rattle.page_model.specs.declared.colour.Tint.{Tint}
+use Rattle.page_model.specs.declared.witness.Witness.{Witness}
+use Rattle.flash_top.specs.declared.outcome.Light.{Light}
 
 -- the line for a page that is refused, without its end; places are byte places from 0 on, and elements go by number, the body's being 0
 abbrev pub refusal_line : PageRefusal → List ℕ
@@ -33,25 +37,68 @@ tint_line tint =
     if is_single tint then 35 ∷ colour_text tint.lo
     else 35 ∷ (colour_text tint.lo ++ 45 ∷ (35 ∷ colour_text tint.hi))
 
--- the line for an outcome, without its end
+-- the line for how light a colour is: the linear light of its channels, its luminance, and whether it is a saturated red
+abbrev pub light_line : Light → List ℕ
+light_line light =
+    codes "lin " ++ (decimal light.red ++ 32 ∷ (decimal light.green ++ 32 ∷ (decimal light.blue ++ (codes ", luma " ++ (decimal light.luma
+    ++ (if light.saturated then codes ", red yes" else codes ", red no"))))))
+
+-- the lines for a page that isn't judged, or without a witness
+abbrev pub unjudged_line : List ℕ
+unjudged_line = codes "page: not yet"
+
+abbrev pub pass_line : ℕ → List ℕ
+pass_line frames = codes "pass: frames " ++ decimal frames
+
+abbrev pub frames_line : List ℕ
+frames_line = codes "undecided: more than 100000 frames"
+
+abbrev pub work_line : ℕ → ℕ → List ℕ
+work_line cells frames = codes "undecided: " ++ (decimal cells ++ (codes " cells in " ++ (decimal frames ++ codes " frames")))
+
+abbrev pub window_line : ℕ → ℤ → ℤ → List ℕ
+window_line start x y =
+    codes "undecided: enclosure at start " ++ (decimal start ++ (codes ", rectangle " ++ (signed_decimal x ++ 32 ∷ signed_decimal y)))
+
+-- the line that sums up a page that fails, by the window of its witness and its area
+abbrev pub fail_line : Witness → List ℕ
+fail_line witness =
+    codes "fail: start " ++ (decimal witness.start ++ (codes ", rectangle " ++ (signed_decimal witness.x ++ 32 ∷ (signed_decimal witness.y
+    ++ (codes ", area " ++ decimal witness.area)))))
+
+-- the line that sums up what a page comes to
+abbrev pub summary_line : Judgement → List ℕ
+summary_line Unjudged = unjudged_line
+summary_line (Passed frames) = pass_line frames
+summary_line (Failed witness) = fail_line witness
+summary_line Frames = frames_line
+summary_line (Work cells frames) = work_line cells frames
+summary_line (Enclosure start x y) = window_line start x y
+
+-- the lines for the page of a number
+abbrev pub demo_lines : ℕ → Judgement → List ℕ
+demo_lines number judgement = codes "demo " ++ (decimal number ++ (codes ": boxes 64" ++ 10 ∷ summary_line judgement))
+
+-- the line for an outcome, without its end; there are two for the page of a number
 abbrev pub line_of : Outcome → List ℕ
 line_of WordsRefused = codes "words: not understood"
 line_of ReadFault = codes "cannot read"
 line_of (Refused refusal) = refusal_line refusal
-line_of NotYet = codes "page: not yet"
-line_of (Pass frames) = codes "pass: frames " ++ decimal frames
+line_of NotYet = unjudged_line
+line_of (Pass frames) = pass_line frames
 line_of (Fail witness) = witness_text witness
-line_of TooManyFrames = codes "undecided: more than 100000 frames"
-line_of (TooMuchWork cells frames) = codes "undecided: " ++ (decimal cells ++ (codes " cells in " ++ (decimal frames ++ codes " frames")))
-line_of (Enclosed start x y) =
-    codes "undecided: enclosure at start " ++ (decimal start ++ (codes ", rectangle " ++ (signed_decimal x ++ 32 ∷ signed_decimal y)))
+line_of TooManyFrames = frames_line
+line_of (TooMuchWork cells frames) = work_line cells frames
+line_of (Enclosed start x y) = window_line start x y
 line_of NoWitness = codes "refused: not a witness"
 line_of (Unaccepted fault) = codes "refused: condition " ++ decimal (condition_of fault)
 line_of (Accepted start area) = codes "accepted: start " ++ (decimal start ++ (codes ", area " ++ decimal area))
 line_of (Painted tint) = tint_line tint
+line_of (Lit light) = light_line light
+line_of (Shown number judgement) = demo_lines number judgement
 line_of NoMemory = codes "no memory"
 
--- the text for an outcome: one line, ended by a line feed
+-- the text for an outcome: its line, ended by a line feed
 abbrev pub text_of : Outcome → List ℕ
 text_of outcome = line_of outcome ++ 10 ∷ []
 
@@ -70,6 +117,8 @@ status_of NoWitness = status.Bad
 status_of (Unaccepted fault) = status.Bad
 status_of (Accepted start area) = status.Pass
 status_of (Painted tint) = status.Pass
+status_of (Lit light) = status.Pass
+status_of (Shown number judgement) = status.Pass
 status_of NoMemory = status.NoMemory
 
 -- a refusal has a place or an element to tell; the text of each other one is always the same
@@ -101,6 +150,8 @@ HasOwnText NoWitness = ⊥
 HasOwnText (Unaccepted fault) = Unit {0}
 HasOwnText (Accepted start area) = Unit {0}
 HasOwnText (Painted tint) = Unit {0}
+HasOwnText (Lit light) = Unit {0}
+HasOwnText (Shown number judgement) = Unit {0}
 HasOwnText NoMemory = ⊥
 
 -- a witness that is told has a rate that a version of its text tells

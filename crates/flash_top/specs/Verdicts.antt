@@ -16,7 +16,7 @@ use Rattle.witness_text.specs.WitnessForm.{IsTextOf}
 use Rattle.flash_top.specs.Refusals.{IsLoadedAs, IsRefusal}
 use Rattle.flash_words.specs.Words.{Spot}
 use Rattle.flash_top.specs.declared.outcome.Outcome.{Outcome}
-use Rattle.flash_top.specs.declared.outcome.Outcome.TheVariants.{WordsRefused, ReadFault, Refused, NotYet, Pass, Fail, TooManyFrames, TooMuchWork, Enclosed, NoWitness, Unaccepted, Accepted, Painted, NoMemory}
+use Rattle.flash_top.specs.declared.outcome.Outcome.TheVariants.{WordsRefused, ReadFault, Refused, NotYet, Pass, Fail, TooManyFrames, TooMuchWork, Enclosed, NoWitness, Unaccepted, Accepted, Painted, Lit, Shown, NoMemory}
 
 -- the bytes are a page, and of its scene something holds
 pub record IsPageOf (bytes : List ℕ) (Holds : Scene → Type 0) : Type 0 where
@@ -40,6 +40,8 @@ IsVerdict setup bytes NoWitness = ⊥
 IsVerdict setup bytes (Unaccepted fault) = ⊥
 IsVerdict setup bytes (Accepted start area) = ⊥
 IsVerdict setup bytes (Painted tint) = ⊥
+IsVerdict setup bytes (Lit light) = ⊥
+IsVerdict setup bytes (Shown number judgement) = ⊥
 IsVerdict setup bytes NoMemory = ⊤
 
 -- the file of a witness has at most so many bytes
@@ -89,6 +91,8 @@ IsVerified setup bytes text NoWitness = IsPageOf bytes (λ scene. HasNoWitness s
 IsVerified setup bytes text (Unaccepted fault) = IsPageOf bytes (λ scene. HasWitness scene text (λ witness. IsFirstFault scene setup witness fault))
 IsVerified setup bytes text (Accepted start area) = IsPageOf bytes (λ scene. HasWitness scene text (λ witness. IsGoodWitness scene setup witness start area))
 IsVerified setup bytes text (Painted tint) = ⊥
+IsVerified setup bytes text (Lit light) = ⊥
+IsVerified setup bytes text (Shown number judgement) = ⊥
 IsVerified setup bytes text NoMemory = ⊤
 
 -- The scene can be painted, and by the exact states of its layers in the frame, whatever they are, the pixel has this one colour at both
@@ -113,4 +117,6 @@ IsTinted setup spot bytes NoWitness = ⊥
 IsTinted setup spot bytes (Unaccepted fault) = ⊥
 IsTinted setup spot bytes (Accepted start area) = ⊥
 IsTinted setup spot bytes (Painted tint) = IsPageOf bytes (λ scene. IsPainted scene setup spot tint)
+IsTinted setup spot bytes (Lit light) = ⊥
+IsTinted setup spot bytes (Shown number judgement) = ⊥
 IsTinted setup spot bytes NoMemory = ⊤

@@ -3,7 +3,7 @@ ghost use Rattle.std.specs.Prelude.{ℕ, ◌≡◌, List, map, string_bytes};
 ghost use Rattle.page_model.specs.declared.scene.Scene.{Scene as Loaded};
 ghost use Rattle.flash_top.specs.Clear.{CheckDecides, ClearPagesAreDecided};
 ghost use Rattle.flash_top.specs.Refusals.{IsLoadedAs, IsRefusal};
-ghost use Rattle.flash_top.specs.SameAnswers.{OneTint, OneVerdict, OneVerified, ToldWitnessIsAccepted};
+ghost use Rattle.flash_top.specs.SameAnswers.{OneDemo, OneLight, OneTint, OneVerdict, OneVerified, ToldWitnessIsAccepted};
 ghost use Rattle.flash_top.specs.declared.refusal.PageRefusal.{PageRefusal as Refusal};
 
 use flash_words::command;
@@ -15,11 +15,14 @@ pub fn one_refusal()
 {}
 
 /// The answers of each command exclude each other, want of memory apart. Of two witnesses of a page that fails, both tell the same
-/// window, position and area; of two faults of a witness that isn't accepted, both tell the same condition.
+/// window, position and area; of two faults of a witness that isn't accepted, both tell the same condition. The page of a number is
+/// told by one text.
 pub fn one_answer()
     ensures check { OneVerdict }
     ensures verify { OneVerified }
     ensures tint { OneTint }
+    ensures light { OneLight }
+    ensures demo { OneDemo }
 {}
 
 /// What `check` tells of a page that fails is accepted by `verify` of the same page at the same setup, where memory isn't refused.

@@ -6,8 +6,8 @@
 //! The tint of a pixel is its exact colour in the frame.
 //!
 //! The way of a run: `flash_words` finds the command, `obeying` hands it on, `opening` reads and loads what its words name,
-//! `checking` has the scene judged, `verifying` has a witness of it tested, `tinting` paints a pixel, and `telling` makes the
-//! text and writes it. `Verdicts` in `specs/` is the table of causes: it speaks of scenes, judgements and witnesses, and the
+//! `checking` has the scene judged, `verifying` has a witness of it tested, `tinting` paints a pixel, `lighting` tells how light a
+//! colour is, `showing` has a page that is made from a number judged, and `telling` makes the text and writes it. `Verdicts` in `specs/` is the table of causes: it speaks of scenes, judgements and witnesses, and the
 //! crates below say what these are. A page is refused for one cause ([`one_refusal`]), the answers exclude each other
 //! ([`one_answer`]), and what `check` tells of a page that fails is accepted by `verify` ([`told_witness_is_accepted`]). A page that
 //! stands clear of the thresholds is passed or failed ([`clear_pages_are_decided`], [`check_decides`]).
@@ -18,13 +18,17 @@
 #![tactic(auto)]
 
 mod checking;
+mod demo_line;
 mod laws;
+mod light_line;
+mod lighting;
 mod loading;
 mod obeying;
 mod opening;
 mod outcome;
 mod refusal;
 mod running;
+mod showing;
 mod status;
 mod telling;
 mod tint_line;
@@ -35,7 +39,7 @@ pub use flash_words::{Command, WordsFault, command};
 pub use laws::{
     check_decides, clear_pages_are_decided, one_answer, one_refusal, told_witness_is_accepted,
 };
-pub use outcome::Outcome;
+pub use outcome::{Light, Outcome};
 pub use page_loader::{LoadFault, load};
 pub use refusal::PageRefusal;
 pub use running::run;

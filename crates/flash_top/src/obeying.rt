@@ -5,7 +5,9 @@ ghost use Rattle.flash_top.specs.Outcomes.{ComesTo, IsOutcome, MayOpenFiles};
 ghost use Rattle.flash_words.specs.Words.{Spells};
 
 use crate::checking::check;
+use crate::lighting::light;
 use crate::outcome::Outcome;
+use crate::showing::demo;
 use crate::tinting::{Spot, tint};
 use crate::verifying::verify;
 use flash_words::{Command, command};
@@ -56,5 +58,7 @@ fn obey<S: Source>(alloc: Global, words: &[String], command: &Command, source: &
             };
             tint(alloc, words[*page].as_str(), *setup, spot, source)
         }
+        Command::Light { colour } => light(*colour),
+        Command::Demo { number, setup } => demo(alloc, *number, *setup),
     }
 }

@@ -51,7 +51,7 @@ pub(crate) fn open_page<S: Source>(
 
 /// The scene of a page's bytes, of which there aren't too many.
 #[tactic(auto, using(crate::proofs::RefusalLemmas::is_unloaded))]
-fn scene_of(alloc: Global, bytes: &[u8]) -> Result<Scene, Outcome>
+pub(crate) fn scene_of(alloc: Global, bytes: &[u8]) -> Result<Scene, Outcome>
     requires { length bytes.now ≤ page_limit }
     ensures loaded { IfOk result (IsLoadedAs bytes.now) }
     ensures valid { IfOk result IsValid }

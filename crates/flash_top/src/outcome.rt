@@ -1,7 +1,21 @@
 // What a run finds out, before it is told.
 use crate::refusal::PageRefusal;
 use flash_witness::WitnessFault;
+use page_judge::Judgement;
 use page_model::{Tint, Witness};
+
+/// How light a colour is.
+#[derive(Clone, Copy, Debug, PartialEq, Eq)]
+pub struct Light {
+    /// The linear light of its channels, each in parts of 2^32.
+    pub red: u64,
+    pub green: u64,
+    pub blue: u64,
+    /// Its relative luminance, in parts of 10000 * 2^32.
+    pub luma: u64,
+    /// Whether it is a saturated red.
+    pub saturated: bool,
+}
 
 /// What the words, the files that they name and the judgement come to.
 #[derive(Drop)]
@@ -32,6 +46,10 @@ pub enum Outcome {
     Accepted { start: u32, area: u32 },
     /// The tint of a pixel.
     Painted(Tint),
+    /// How light a colour is.
+    Lit(Light),
+    /// What the page comes to that is made from this number.
+    Shown { number: u32, judgement: Judgement },
     /// Memory was refused.
     NoMemory,
 }

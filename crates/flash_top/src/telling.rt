@@ -4,6 +4,8 @@ ghost use Rattle.flash_top.specs.Telling.{Tells};
 ghost use Rattle.flash_top.specs.declared.outcome.Outcome.TheVariants.{Accepted, Enclosed, TooMuchWork, Unaccepted};
 ghost use Rattle.flash_top.specs.Texts.{CanBeTold, HasOwnLine, HasOwnText, line_of, refusal_line, status_of, text_of};
 
+use crate::demo_line::demo_lines;
+use crate::light_line::light_line;
 use crate::outcome::Outcome;
 use crate::refusal::PageRefusal;
 use crate::status::Status;
@@ -22,6 +24,7 @@ pub(crate) fn status(outcome: &Outcome) -> Status
         Outcome::ReadFault => Status::ReadFault,
         Outcome::Refused(_) | Outcome::NotYet => Status::Page,
         Outcome::Pass { .. } | Outcome::Accepted { .. } | Outcome::Painted(_) => Status::Pass,
+        Outcome::Lit(_) | Outcome::Shown { .. } => Status::Pass,
         Outcome::Fail(_) | Outcome::NoWitness | Outcome::Unaccepted(_) => Status::Bad,
         Outcome::TooManyFrames | Outcome::TooMuchWork { .. } | Outcome::Enclosed { .. } => {
             Status::Undecided
@@ -74,14 +77,14 @@ fn own_line(alloc: Global, refusal: &PageRefusal) -> Result<String, NoMemory>
 }
 
 /// The line of too many cells in the frames that would have to be looked at.
-fn work_line(alloc: Global, cells: u32, frames: u32) -> Result<String, NoMemory>
+pub(crate) fn work_line(alloc: Global, cells: u32, frames: u32) -> Result<String, NoMemory>
     ensures { IfOk result (λ text. string_bytes text ≡ line_of (TooMuchWork cells frames)) }
 {
     Ok(format!(in alloc; "undecided: {cells} cells in {frames} frames")?)
 }
 
 /// The line of a window that is possibly bad.
-fn window_line(alloc: Global, start: u32, x: i32, y: i32) -> Result<String, NoMemory>
+pub(crate) fn window_line(alloc: Global, start: u32, x: i32, y: i32) -> Result<String, NoMemory>
     ensures { IfOk result (λ text. string_bytes text ≡ line_of (Enclosed start x y)) }
 {
     Ok(format!(in alloc; "undecided: enclosure at start {start}, rectangle {x} {y}")?)
@@ -119,7 +122,9 @@ pub(crate) fn fixed_text(outcome: &Outcome) -> Option<&'static [u8]>
         | Outcome::Enclosed { .. }
         | Outcome::Unaccepted(_)
         | Outcome::Accepted { .. }
-        | Outcome::Painted(_) => None,
+        | Outcome::Painted(_)
+        | Outcome::Lit(_)
+        | Outcome::Shown { .. } => None,
         Outcome::NoMemory => Some(b"no memory\n".as_slice()),
     }
 }
@@ -139,6 +144,10 @@ pub(crate) fn own_text(alloc: Global, outcome: &Outcome) -> Result<Vec<u8>, NoMe
         Outcome::Unaccepted(fault) => fault_line(alloc, fault)?.into_bytes(),
         Outcome::Accepted { start, area } => accepted_line(alloc, *start, *area)?.into_bytes(),
         Outcome::Painted(tint) => tint_line(alloc, tint)?.into_bytes(),
+        Outcome::Lit(light) => light_line(alloc, light)?.into_bytes(),
+        Outcome::Shown { number, judgement } => {
+            demo_lines(alloc, *number, judgement)?.into_bytes()
+        }
         _ => unreachable!(),
     };
     text.push(b'\n')?;

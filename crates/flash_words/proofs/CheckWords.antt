@@ -41,11 +41,11 @@ map-seven f (x1 ∷ x2 ∷ x3 ∷ x4 ∷ x5 ∷ x6 ∷ x7 ∷ []) a b c d e g h 
 map-seven f (x1 ∷ x2 ∷ x3 ∷ x4 ∷ x5 ∷ x6 ∷ x7 ∷ x8 ∷ xs) a b c d e g h p r s t u v low high = absurd (omega arith)
 
 -- equal lists of four have equal parts
-parts_of_four : {Y : Type 0} (a b c d e f g h : Y) → a ∷ b ∷ c ∷ d ∷ [] ≡ e ∷ f ∷ g ∷ h ∷ [] → (c ≡ g) × (d ≡ h)
+pub parts_of_four : {Y : Type 0} (a b c d e f g h : Y) → a ∷ b ∷ c ∷ d ∷ [] ≡ e ∷ f ∷ g ∷ h ∷ [] → (c ≡ g) × (d ≡ h)
 parts_of_four a b c d e f g h same = (cc, cc)
 
 -- equal words spell one rate
-rate-same : {rate other : List ℕ} {width height : ℕ} {s : Viewing} → rate ≡ other → SpellsRate rate width height s → SpellsRate other width height s
+pub rate-same : {rate other : List ℕ} {width height : ℕ} {s : Viewing} → rate ≡ other → SpellsRate rate width height s → SpellsRate other width height s
 rate-same {rate} {other} {width} {height} {s} e good = subst (λ word. SpellsRate word width height s) e good
 
 -- words with the right name and a setup spell a check of the page at place 1

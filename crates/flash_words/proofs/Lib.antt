@@ -1,3 +1,5 @@
 pub mod CheckWords
+pub mod ColourWords
 pub mod Decimals
 pub mod RateLemmas
+pub mod ShownWords

@@ -1,8 +1,10 @@
 -- Which words spell which command.
 use Rattle.std.specs.Prelude.{◌≡◌, ◌<◌, ◌^◌, ◌⊎◌, ℕ, List, [], ◌∷◌, ◌++◌, Ok, codes, decimal, get_or}
 use Rattle.page_model.specs.Viewing.{Viewing, setup_of, setup_over_1001}
+use Rattle.page_model.specs.declared.colour.Rgb.{Rgb}
+use Rattle.flash_words.specs.Colours.{SpellsColour}
 use Rattle.flash_words.specs.declared.words.Command.{Command}
-use Rattle.flash_words.specs.declared.words.Command.TheVariants.{Check, Verify, Tint}
+use Rattle.flash_words.specs.declared.words.Command.TheVariants.{Check, Verify, Tint, Light, Demo}
 
 -- RATE spells the rate of a setup of this size: its number of frames per second
 pub record SpellsWholeRate (rate : List ℕ) (width height : ℕ) (setup : Viewing) : Type 0 where
@@ -70,17 +72,35 @@ pub record SpellsTint (words : List (List ℕ)) (page : ℕ) (setup : Viewing) (
   pub setup_is : SpellsSetup size rate setup
   pub spot_is : IsSpot setup spot
 
+-- `light` COLOUR: how light a colour is
+pub record SpellsLight (words : List (List ℕ)) (colour : Rgb) : Type 0 where
+  pub word : List ℕ
+  pub words_are : words ≡ codes "light" ∷ word ∷ []
+  pub colour_is : SpellsColour word colour
+
+-- `demo` N SIZE RATE, where N is a number below 2^32: judge the page that is made from it
+pub record SpellsDemo (words : List (List ℕ)) (number : ℕ) (setup : Viewing) : Type 0 where
+  pub size : List ℕ
+  pub rate : List ℕ
+  pub words_are : words ≡ codes "demo" ∷ decimal number ∷ size ∷ rate ∷ []
+  pub limit : number < 2 ^ 32
+  pub setup_is : SpellsSetup size rate setup
+
 -- the words spell the command: its name and what goes with it, in this order, and no more
 abbrev pub Spells : List (List ℕ) → Command → Type 0
 Spells words (Check page setup) = SpellsCheck words page setup
 Spells words (Verify page witness setup) = SpellsVerify words page witness setup
 Spells words (Tint page setup frame x y) = SpellsTint words page setup (record { frame = frame; column = x; row = y })
+Spells words (Light colour) = SpellsLight words colour
+Spells words (Demo number setup) = SpellsDemo words number setup
 
--- a command names a file by the word at this place
+-- a command names a file by the word at this place; `light` and `demo` name none
 abbrev pub NamesFile : Command → ℕ → Type 0
 NamesFile (Check page setup) place = place ≡ page
 NamesFile (Verify page witness setup) place = (place ≡ page) ⊎ (place ≡ witness)
 NamesFile (Tint page setup frame x y) place = place ≡ page
+NamesFile (Light colour) place = ⊥
+NamesFile (Demo number setup) place = ⊥
 
 -- the word at a place
 abbrev pub word_at : List (List ℕ) → ℕ → List ℕ

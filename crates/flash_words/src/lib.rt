@@ -8,6 +8,7 @@
 //! no sign and no leading zero, by `numerals`.
 #![tactic(auto)]
 
+mod colours;
 mod numerals;
 mod reading;
 mod words;

@@ -1,11 +1,14 @@
 // The words of a command line, read.
 ghost use Rattle.std.specs.Prelude.{◌≡◌, ◌<◌, ℕ, IfOk, OnErr, IfSome, decimal, map, string_bytes};
 ghost use Rattle.page_model.specs.Viewing.{Viewing};
-ghost use Rattle.flash_words.specs.Words.{Spells, SpellsCheck, SpellsSetup, SpellsTint, SpellsVerify, Spot};
+ghost use Rattle.page_model.specs.declared.colour.Rgb.{Rgb as Colour};
+ghost use Rattle.flash_words.specs.Words.{Spells, SpellsCheck, SpellsDemo, SpellsLight, SpellsSetup, SpellsTint};
+ghost use Rattle.flash_words.specs.Words.{SpellsVerify, Spot};
 
+use crate::colours::colour;
 use crate::numerals::{number, number_over_1001, small_number, width_and_height};
 use crate::words::{Command, WordsFault};
-use page_model::Setup;
+use page_model::{Rgb, Setup};
 
 /// The command that the words spell; the program's own name is not among them.
 ///
@@ -33,7 +36,13 @@ fn find(words: &[String]) -> Option<Command>
                 witness: 2,
                 setup,
             }),
-            None => tint(words),
+            None => match light(words) {
+                Some(colour) => Some(Command::Light { colour }),
+                None => match demo(words) {
+                    Some((number, setup)) => Some(Command::Demo { number, setup }),
+                    None => tint(words),
+                },
+            },
         },
     }
 }
@@ -91,6 +100,36 @@ fn tint(words: &[String]) -> Option<Command>
         x,
         y,
     })
+}
+
+// The colour that `light` COLOUR spell.
+fn light(words: &[String]) -> Option<Rgb>
+    ensures ok { IfSome result (λ c. SpellsLight (map string_bytes words.now) c) }
+    ensures spelled { (c : Colour) → SpellsLight (map string_bytes words.now) c → result ≡ Some c }
+{
+    let [name, word] = words else {
+        return None;
+    };
+    if name.as_str() != "light" {
+        return None;
+    }
+    colour(word.as_str())
+}
+
+// The number and the setup that `demo` N SIZE RATE spell.
+fn demo(words: &[String]) -> Option<(u32, Setup)>
+    ensures ok { IfSome result (λ d. SpellsDemo (map string_bytes words.now) d.0 d.1) }
+    ensures spelled { (n : ℕ) (s : Viewing) → SpellsDemo (map string_bytes words.now) n s → result ≡ Some (n, s) }
+{
+    let [name, number_word, size, rate] = words else {
+        return None;
+    };
+    if name.as_str() != "demo" {
+        return None;
+    }
+    let number = number(number_word.as_str())?;
+    let setup = setup(size.as_str(), rate.as_str())?;
+    Some((number, setup))
 }
 
 // The number below a limit that a word writes.

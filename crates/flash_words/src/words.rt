@@ -1,5 +1,5 @@
 // What a command line asks for.
-use page_model::Setup;
+use page_model::{Rgb, Setup};
 
 /// What is to be done. A `usize` is the place of a word among the words, the first of which has place 0.
 #[derive(Clone, Copy, Debug)]
@@ -24,6 +24,15 @@ pub enum Command {
         frame: u32,
         x: u16,
         y: u16,
+    },
+    /// Tell how light a colour is, and whether it is a saturated red.
+    Light {
+        colour: Rgb,
+    },
+    /// Judge the page that is made from a number, at this viewport and rate.
+    Demo {
+        number: u32,
+        setup: Setup,
     },
 }
 

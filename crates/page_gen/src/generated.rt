@@ -1,5 +1,5 @@
 // The page of a number, box by box.
-ghost use Rattle.std.specs.Prelude.{◌≡◌, ◌++◌, ◌<◌, ◌≤◌, IfOk, string_bytes};
+ghost use Rattle.std.specs.Prelude.{◌≡◌, ◌++◌, ◌<◌, ◌≤◌, IfOk, length, string_bytes};
 ghost use Rattle.page_gen.specs.GeneratedPage as definition;
 
 use page_model::NoMemory;
@@ -56,13 +56,15 @@ fn add_boxes(alloc: Global, text: &mut Vec<u8>, first: u32) -> Result<(), NoMemo
     Ok(())
 }
 
-/// The page of a number, always the same: 64 boxes that blink and fade, as bytes of HTML with a line feed at their end.
+/// The page of a number, always the same: 64 boxes that blink and fade, as bytes of HTML with a line feed at their end,
+/// and no more of them than a page may have.
 ///
 /// # Errors
 ///
 /// `NoMemory` where memory is refused.
 pub fn page_text(alloc: Global, first: u32) -> Result<Vec<u8>, NoMemory>
-    ensures { IfOk result (λ text. text.items ≡ definition.generated_page first) }
+    ensures value { IfOk result (λ text. text.items ≡ definition.generated_page first) }
+    ensures few { IfOk result (λ text. length text.items ≤ 1048576) }
 {
     let mut text = Vec::new(alloc);
     text.extend_from_slice(HEAD)?;

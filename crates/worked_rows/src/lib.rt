@@ -32,6 +32,8 @@ mod running;
 #[cfg(test)]
 mod sheets;
 #[cfg(test)]
+mod shown;
+#[cfg(test)]
 mod tables;
 #[cfg(test)]
 mod tints;
