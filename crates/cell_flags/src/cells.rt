@@ -2,7 +2,6 @@
 ghost use Rattle.std.specs.Prelude.{◌≤◌, IfOk};
 ghost use Rattle.page_model.specs.Horizon.{frames_for};
 ghost use Rattle.page_model.specs.ValidScene.{IsValid};
-ghost use Rattle.frame_state.specs.Scenes.{CanBePainted};
 ghost use Rattle.region_split.specs.Cutting.{IsCut};
 ghost use Rattle.cell_flags.specs.Flags.{AreFlags};
 
@@ -28,7 +27,6 @@ pub fn flags_of_cells(
     windows: u32,
 ) -> Result<Vec<Flag>, NoMemory>
     requires valid { IsValid scene.now }
-    requires painted { CanBePainted scene.now }
     requires few { windows ≤ 100000 }
     requires cut { IsCut scene.now setup.now (frames_for setup.now windows) cuts.now }
     ensures { IfOk result (λ flags. AreFlags scene.now setup.now cuts.now windows flags.items) }

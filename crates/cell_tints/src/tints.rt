@@ -1,7 +1,6 @@
 // The tints of all cells, frame by frame.
 ghost use Rattle.std.specs.Prelude.{◌+◌, ◌^◌, ◌<◌, ◌≤◌, IfOk, OnOk};
 ghost use Rattle.page_model.specs.ValidScene.{IsValid};
-ghost use Rattle.frame_state.specs.Scenes.{CanBePainted};
 ghost use Rattle.cell_tints.specs.Tints.{AreTintsOfCells};
 
 use frame_state::{layer_at, states_at};
@@ -23,7 +22,6 @@ fn add_frame(
     k: u32,
 ) -> Result<(), NoMemory>
     requires valid { IsValid scene.now }
-    requires painted { CanBePainted scene.now }
     requires few { start + k < 2 ^ 32 }
     requires before { AreTintsOfCells scene.now setup.now cuts.now start k tints.old.items }
     ensures { OnOk result (AreTintsOfCells scene.now setup.now cuts.now start (k + 1) tints.new.items) }
@@ -55,7 +53,6 @@ pub fn tints_of_cells(
     frames: u32,
 ) -> Result<Vec<Tint>, NoMemory>
     requires valid { IsValid scene.now }
-    requires painted { CanBePainted scene.now }
     requires few { start + frames ≤ 2 ^ 32 }
     ensures { IfOk result (λ tints. AreTintsOfCells scene.now setup.now cuts.now start frames tints.items) }
 {

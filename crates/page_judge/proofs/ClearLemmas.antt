@@ -1,6 +1,5 @@
 -- Each other answer has a cause that these premises exclude.
 use Rattle.std.proofs.Common.{◌≡◌, ◌∙◌, ◌⊎◌, ℕ, ℤ, ◌*◌, ◌<◌, ◌≤◌, arith, ap, mul-le-mul_right, subst, true, false, true≢false, sym, inl, inr}
-use Rattle.std.specs.Prelude.{IsTrue}
 use Rattle.page_model.specs.declared.scene.Scene.{Scene}
 use Rattle.page_model.specs.declared.setup.Setup.{Setup}
 use Rattle.page_model.specs.Cells.{IsTooMuchWork, cells_between, work_limit}
@@ -8,10 +7,10 @@ use Rattle.page_model.specs.Enclosure.{wide}
 use Rattle.page_model.specs.Horizon.{all_animations, frames_for}
 use Rattle.sweep.specs.Verdicts.{IsTooMuch}
 use Rattle.page_judge.specs.declared.types.Judgement.{Judgement}
-use Rattle.page_judge.specs.declared.types.Judgement.TheVariants.{NotYet, Pass, Fail, Frames, Work, Enclosure}
+use Rattle.page_judge.specs.declared.types.Judgement.TheVariants.{Pass, Fail, Frames, Work, Enclosure}
 use Rattle.page_judge.specs.Clear.{ClearScenesAreDecided, IsClear, IsWithinCounts, WorkIsTooMuchWidely}
-use Rattle.page_judge.specs.Judgement.{IsEnclosed, can_be_judged}
-use Rattle.page_judge.proofs.OneLemmas.{few-more, needed-unique, not_yet-judged}
+use Rattle.page_judge.specs.Judgement.{IsEnclosed}
+use Rattle.page_judge.proofs.OneLemmas.{few-more, needed-unique}
 
 -- more cells times frames are more
 more-cells : (cells wide_cells frames limit : ℕ) → cells ≤ wide_cells → limit < cells * frames → limit < wide_cells * frames
@@ -25,7 +24,7 @@ much-widely scene setup cells frames much run xs ys is cuts =
     more-cells cells (cells_between xs ys) frames work_limit (much.work.at_most_wide run xs ys is cuts) much.work.too_many
 
 pub past_work-widely : WorkIsTooMuchWidely
-past_work-widely scene setup cells frames past = much-widely scene setup cells frames past.much
+past_work-widely scene setup cells frames past = much-widely scene setup cells frames past
 
 never-much : (scene : Scene) (setup : Setup) (cells frames : ℕ) → IsWithinCounts scene setup → IsTooMuch scene setup cells frames → ⊥
 never-much scene setup cells frames counts much =
@@ -39,10 +38,9 @@ never-enclosed scene setup start x y (inr (inl some)) enclosed = enclosed.widely
 never-enclosed scene setup start x y (inr (inr exact)) enclosed = enclosed.inexact exact
 
 pub clear-decided : ClearScenesAreDecided
-clear-decided scene setup NotYet judged counts clear is = not_yet-judged scene is judged
-clear-decided scene setup (Pass frames) judged counts clear is = tt
-clear-decided scene setup (Fail w) judged counts clear is = tt
-clear-decided scene setup Frames judged counts clear is =
-    few-more setup (all_animations scene) counts.needed counts.is_needed counts.few is.more
-clear-decided scene setup (Work cells frames) judged counts clear is = never-much scene setup cells frames counts is.much
-clear-decided scene setup (Enclosure start x y) judged counts clear is = never-enclosed scene setup start x y clear is
+clear-decided scene setup (Pass frames) counts clear is = tt
+clear-decided scene setup (Fail w) counts clear is = tt
+clear-decided scene setup Frames counts clear is =
+    few-more setup (all_animations scene) counts.needed counts.is_needed counts.few is
+clear-decided scene setup (Work cells frames) counts clear is = never-much scene setup cells frames counts is
+clear-decided scene setup (Enclosure start x y) counts clear is = never-enclosed scene setup start x y clear is

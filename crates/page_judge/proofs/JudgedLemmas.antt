@@ -1,6 +1,5 @@
 -- What the verdict of a sweep says of its scene.
 use Rattle.std.proofs.Common.{◌≡◌, ℕ, ℤ, subst, sym}
-use Rattle.std.specs.Prelude.{IsTrue}
 use Rattle.page_model.specs.declared.scene.Scene.{Scene}
 use Rattle.page_model.specs.declared.witness.Witness.{Witness}
 use Rattle.page_model.specs.Enclosure.{LooseRun, own}
@@ -8,7 +7,6 @@ use Rattle.page_model.specs.TintOf.{IsLooseRunIn, tints_of}
 use Rattle.page_model.specs.Window.{IsSurelyBad, IsSurelyFlagged}
 use Rattle.enclosure_laws.proofs.CauseLemmas.{open-widely}
 use Rattle.enclosure_laws.proofs.ExactPageLemmas.{exact_pages-decided}
-use Rattle.frame_state.specs.Scenes.{CanBePainted}
 use Rattle.witness_laws.proofs.WitnessLemmas.{accepted_is_bad}
 use Rattle.witness_make.specs.Made.{IsMade}
 use Rattle.sweep.specs.declared.types.Reason.{Reason}
@@ -17,17 +15,12 @@ use Rattle.sweep.specs.declared.types.Verdict.TheVariants.{Undecided}
 use Rattle.sweep.specs.Verdicts as verdict
 use Rattle.sweep.specs.Marks.{CountsFlagged}
 use Rattle.sweep.specs.Verdicts.{IsFirstBad, IsReady, IsSureMost, Judged}
-use Rattle.page_judge.specs.Judgement.{IsFail, IsJudgement, IsWithinBounds, can_be_judged, judgement_for}
-
--- what can be judged can be painted
-pub painted-of : (scene : Scene) → IsTrue (can_be_judged scene) → CanBePainted scene
-painted-of scene is = is
+use Rattle.page_judge.specs.Judgement.{IsFail, IsJudgement, IsWithinBounds, judgement_for}
 
 -- what a sweep opens with
-pub bounds-of : (judged : Judged) → IsReady judged → IsTrue (can_be_judged judged.scene)
-    → IsWithinBounds judged.scene judged.setup judged.needed
-bounds-of judged ready is =
-    record { judged = is; is_needed = ready.is_needed; few = ready.few; cuts = judged.cuts; cut = ready.cut }
+pub bounds-of : (judged : Judged) → IsReady judged → IsWithinBounds judged.scene judged.setup judged.needed
+bounds-of judged ready =
+    record { is_needed = ready.is_needed; few = ready.few; cuts = judged.cuts; cut = ready.cut }
 
 -- what holds at a place holds at the witness's, which is the same
 at-witness : (P : ℕ → ℤ → ℤ → Type 0) (start : ℕ) (x y : ℤ) (w : Witness) → w.start ≡ start → w.x ≡ x → w.y ≡ y → P start x y
@@ -37,12 +30,12 @@ at-witness P start x y w start_is x_is y_is here =
     (subst (λ (v : ℤ). P start v w.y) (sym x_is) (subst (λ (v : ℤ). P start x v) (sym y_is) here))
 
 -- the witness that is made
-pub fail-of : (judged : Judged) (start : ℕ) (x y : ℤ) (w : Witness) → IsReady judged → IsTrue (can_be_judged judged.scene)
+pub fail-of : (judged : Judged) (start : ℕ) (x y : ℤ) (w : Witness) → IsReady judged
     → verdict.IsFail judged.scene judged.setup judged.needed start x y
     → IsMade judged.scene judged.setup judged.cuts start x y w → IsFail judged.scene judged.setup w
-fail-of judged start x y w ready is failed made = record {
+fail-of judged start x y w ready failed made = record {
   needed = judged.needed;
-  bounds = bounds-of judged ready is;
+  bounds = bounds-of judged ready;
   first = at-witness (IsFirstBad (IsSurelyBad own judged.scene judged.setup) judged.needed) start x y w made.start_is made.x_is made.y_is failed.first;
   most = at-witness (IsSureMost judged.scene judged.setup) start x y w made.start_is made.x_is made.y_is failed.most;
   counts = at-witness (λ (s : ℕ) (a b : ℤ). (run : LooseRun) → IsLooseRunIn own judged.scene judged.setup s run
@@ -54,13 +47,13 @@ fail-of judged start x y w ready is failed made = record {
 }
 
 -- a reason, which is an enclosure
-pub undecided-of : (judged : Judged) (why : Reason) → IsReady judged → IsTrue (can_be_judged judged.scene)
+pub undecided-of : (judged : Judged) (why : Reason) → IsReady judged
     → verdict.IsVerdict judged.scene judged.setup judged.needed (Undecided why) → IsJudgement judged.scene judged.setup (judgement_for why)
-undecided-of judged reason.Frames ready is told = absurd told
-undecided-of judged (reason.Work cells frames) ready is told = absurd told
-undecided-of judged (reason.Enclosure start x y) ready is told = record {
+undecided-of judged reason.Frames ready told = absurd told
+undecided-of judged (reason.Work cells frames) ready told = absurd told
+undecided-of judged (reason.Enclosure start x y) ready told = record {
   needed = judged.needed;
-  bounds = bounds-of judged ready is;
+  bounds = bounds-of judged ready;
   none_surely = told.none_surely;
   first = told.first;
   most = told.most;

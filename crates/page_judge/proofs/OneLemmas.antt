@@ -1,6 +1,5 @@
 -- The answers exclude each other.
 use Rattle.std.proofs.Common.{◌≡◌, ℕ, ℤ, ◌*◌, ◌<◌, ◌≤◌, List, arith, subst, sym}
-use Rattle.std.specs.Prelude.{false, IsTrue}
 use Rattle.page_model.specs.declared.animation.Anim.{Anim}
 use Rattle.page_model.specs.declared.scene.Scene.{Scene}
 use Rattle.page_model.specs.declared.setup.Setup.{Setup}
@@ -18,8 +17,8 @@ use Rattle.sweep.specs.Marks.{CountsFlagged}
 use Rattle.sweep.specs.Verdicts.{IsPossibleMost, IsSureMost, IsTooMuch}
 use Rattle.wide_laws.proofs.LooseLemmas.{loose_run-met}
 use Rattle.page_judge.specs.declared.types.Judgement.{Judgement}
-use Rattle.page_judge.specs.declared.types.Judgement.TheVariants.{NotYet, Pass, Fail, Frames, Work, Enclosure}
-use Rattle.page_judge.specs.Judgement.{IsEnclosed, IsFail, IsJudgement, IsNeitherPassNorEnclosure, IsNoPass, IsPass, IsPastFrames, IsPastWork, IsWithinBounds, OneAnswer, OneJudgement, TellSame, can_be_judged}
+use Rattle.page_judge.specs.declared.types.Judgement.TheVariants.{Pass, Fail, Frames, Work, Enclosure}
+use Rattle.page_judge.specs.Judgement.{IsEnclosed, IsFail, IsJudgement, IsNeitherPassNorEnclosure, IsNoPass, IsPass, IsPastFrames, IsPastWork, IsWithinBounds, OneAnswer, OneJudgement, TellSame}
 use Rattle.page_judge.proofs.CellLemmas.{cells-same}
 use Rattle.page_judge.proofs.PlaceLemmas.{counts-same, places-same, start-unique}
 
@@ -114,16 +113,13 @@ encloses-same scene setup start other_start x y other_x other_y one other =
     (same, place.0, place.1)
 
 -- what excludes what
-pub not_yet-judged : (scene : Scene) → can_be_judged scene ≡ false → IsTrue (can_be_judged scene) → ⊥
-not_yet-judged scene e t = cc
-
 bounds-frames : (scene : Scene) (setup : Setup) (needed : ℕ) → IsWithinBounds scene setup needed → IsPastFrames scene setup → ⊥
 bounds-frames scene setup needed bounds past =
-    few-more setup (all_animations scene) needed bounds.is_needed bounds.few past.more
+    few-more setup (all_animations scene) needed bounds.is_needed bounds.few past
 
 work-frames : (scene : Scene) (setup : Setup) (cells frames : ℕ) → IsPastWork scene setup cells frames → IsPastFrames scene setup → ⊥
 work-frames scene setup cells frames work past =
-    few-more setup (all_animations scene) work.much.needed work.much.is_needed work.much.few past.more
+    few-more setup (all_animations scene) work.needed work.is_needed work.few past
 
 pass-fail : (scene : Scene) (setup : Setup) (frames : ℕ) (w : Witness) → IsPass scene setup frames → IsFail scene setup w → ⊥
 pass-fail scene setup frames w pass fail = pass.none_surely w.start w.x w.y fail.first.bad
@@ -135,49 +131,37 @@ fail-enclosed : (scene : Scene) (setup : Setup) (w : Witness) (start : ℕ) (x y
 fail-enclosed scene setup w start x y fail enclosed = enclosed.none_surely w.start w.x w.y fail.first.bad
 
 pub one-answer : OneAnswer
-one-answer scene setup NotYet NotYet one other = tt
-one-answer scene setup NotYet (Pass frames) one other = not_yet-judged scene one other.bounds.judged
-one-answer scene setup NotYet (Fail w) one other = not_yet-judged scene one other.bounds.judged
-one-answer scene setup NotYet Frames one other = not_yet-judged scene one other.judged
-one-answer scene setup NotYet (Work cells frames) one other = not_yet-judged scene one other.judged
-one-answer scene setup NotYet (Enclosure start x y) one other = not_yet-judged scene one other.bounds.judged
-one-answer scene setup (Pass frames) NotYet one other = not_yet-judged scene other one.bounds.judged
 one-answer scene setup (Pass frames) (Pass others) one other =
     needed-unique setup (all_animations scene) frames others one.bounds.is_needed other.bounds.is_needed
 one-answer scene setup (Pass frames) (Fail w) one other = pass-fail scene setup frames w one other
 one-answer scene setup (Pass frames) Frames one other = bounds-frames scene setup frames one.bounds other
-one-answer scene setup (Pass frames) (Work cells others) one other = bounds-much scene setup frames cells others one.bounds other.much
+one-answer scene setup (Pass frames) (Work cells others) one other = bounds-much scene setup frames cells others one.bounds other
 one-answer scene setup (Pass frames) (Enclosure start x y) one other = pass-enclosed scene setup frames start x y one other
-one-answer scene setup (Fail w) NotYet one other = not_yet-judged scene other one.bounds.judged
 one-answer scene setup (Fail w) (Pass frames) one other = pass-fail scene setup frames w other one
 one-answer scene setup (Fail w) (Fail v) one other = fails-same scene setup w v one other
 one-answer scene setup (Fail w) Frames one other = bounds-frames scene setup one.needed one.bounds other
-one-answer scene setup (Fail w) (Work cells frames) one other = bounds-much scene setup one.needed cells frames one.bounds other.much
+one-answer scene setup (Fail w) (Work cells frames) one other = bounds-much scene setup one.needed cells frames one.bounds other
 one-answer scene setup (Fail w) (Enclosure start x y) one other = fail-enclosed scene setup w start x y one other
-one-answer scene setup Frames NotYet one other = not_yet-judged scene other one.judged
 one-answer scene setup Frames (Pass frames) one other = bounds-frames scene setup frames other.bounds one
 one-answer scene setup Frames (Fail w) one other = bounds-frames scene setup other.needed other.bounds one
 one-answer scene setup Frames Frames one other = tt
 one-answer scene setup Frames (Work cells frames) one other = work-frames scene setup cells frames other one
 one-answer scene setup Frames (Enclosure start x y) one other = bounds-frames scene setup other.needed other.bounds one
-one-answer scene setup (Work cells frames) NotYet one other = not_yet-judged scene other one.judged
-one-answer scene setup (Work cells frames) (Pass others) one other = bounds-much scene setup others cells frames other.bounds one.much
-one-answer scene setup (Work cells frames) (Fail w) one other = bounds-much scene setup other.needed cells frames other.bounds one.much
+one-answer scene setup (Work cells frames) (Pass others) one other = bounds-much scene setup others cells frames other.bounds one
+one-answer scene setup (Work cells frames) (Fail w) one other = bounds-much scene setup other.needed cells frames other.bounds one
 one-answer scene setup (Work cells frames) Frames one other = work-frames scene setup cells frames one other
-one-answer scene setup (Work cells frames) (Work other_cells others) one other = much-same scene setup cells frames other_cells others one.much other.much
-one-answer scene setup (Work cells frames) (Enclosure start x y) one other = bounds-much scene setup other.needed cells frames other.bounds one.much
-one-answer scene setup (Enclosure start x y) NotYet one other = not_yet-judged scene other one.bounds.judged
+one-answer scene setup (Work cells frames) (Work other_cells others) one other = much-same scene setup cells frames other_cells others one other
+one-answer scene setup (Work cells frames) (Enclosure start x y) one other = bounds-much scene setup other.needed cells frames other.bounds one
 one-answer scene setup (Enclosure start x y) (Pass frames) one other = pass-enclosed scene setup frames start x y other one
 one-answer scene setup (Enclosure start x y) (Fail w) one other = fail-enclosed scene setup w start x y other one
 one-answer scene setup (Enclosure start x y) Frames one other = bounds-frames scene setup one.needed one.bounds other
-one-answer scene setup (Enclosure start x y) (Work cells frames) one other = bounds-much scene setup one.needed cells frames one.bounds other.much
+one-answer scene setup (Enclosure start x y) (Work cells frames) one other = bounds-much scene setup one.needed cells frames one.bounds other
 one-answer scene setup (Enclosure start x y) (Enclosure other_start other_x other_y) one other =
     encloses-same scene setup start other_start x y other_x other_y one other
 
 -- a window that is bad or possibly bad, wherever it starts, excludes a pass
 no-pass : (scene : Scene) (setup : Setup) (judgement : Judgement) → IsJudgement scene setup judgement
     → ((frames : ℕ) → IsPass scene setup frames → ⊥) → IsNoPass judgement
-no-pass scene setup NotYet is never = tt
 no-pass scene setup (Pass frames) is never = never frames is
 no-pass scene setup (Fail w) is never = tt
 no-pass scene setup Frames is never = tt
@@ -187,7 +171,6 @@ no-pass scene setup (Enclosure start x y) is never = tt
 -- and one that is surely bad excludes an enclosure too
 neither : (scene : Scene) (setup : Setup) (judgement : Judgement) (start : ℕ) (x y : ℤ) → IsJudgement scene setup judgement
     → IsSurelyBad own scene setup start x y → IsNeitherPassNorEnclosure judgement
-neither scene setup NotYet start x y is surely = tt
 neither scene setup (Pass frames) start x y is surely = is.none_surely start x y surely
 neither scene setup (Fail w) start x y is surely = tt
 neither scene setup Frames start x y is surely = tt

@@ -1,5 +1,5 @@
 -- Which scenes are decided: those within the counted bounds that stand clear of the thresholds by the wide kind, or are exact.
-use Rattle.std.specs.Prelude.{ℕ, ℤ, ◌⊎◌, ◌≤◌, IsTrue}
+use Rattle.std.specs.Prelude.{ℕ, ℤ, ◌⊎◌, ◌≤◌}
 use Rattle.page_model.specs.declared.scene.Scene.{Scene}
 use Rattle.page_model.specs.declared.setup.Setup.{Setup}
 use Rattle.page_model.specs.Cells.{IsTooMuchWork}
@@ -10,7 +10,7 @@ use Rattle.enclosure_laws.specs.ExactPageLaws.{IsExactPage}
 use Rattle.sweep.specs.Verdicts.{NoneEver}
 use Rattle.page_judge.specs.declared.types.Judgement.{Judgement}
 use Rattle.page_judge.specs.declared.types.Judgement.TheVariants.{Pass, Fail}
-use Rattle.page_judge.specs.Judgement.{IsJudgement, IsPastWork, can_be_judged}
+use Rattle.page_judge.specs.Judgement.{IsJudgement, IsPastWork}
 
 -- the windows that have to be looked at aren't too many, nor are, by the wide kind, the cells in their frames
 pub record IsWithinCounts (scene : Scene) (setup : Setup) : Type 0 where
@@ -37,8 +37,8 @@ IsPassOrFail other = ⊥
 -- what is clear is decided within the counted bounds
 abbrev pub ClearScenesAreDecided : Type 0
 ClearScenesAreDecided =
-    (scene : Scene) (setup : Setup) (judgement : Judgement) → IsTrue (can_be_judged scene) → IsWithinCounts scene setup
-    → IsClear scene setup → IsJudgement scene setup judgement → IsPassOrFail judgement
+    (scene : Scene) (setup : Setup) (judgement : Judgement) → IsWithinCounts scene setup → IsClear scene setup
+    → IsJudgement scene setup judgement → IsPassOrFail judgement
 
 -- and where the cells in the frames are too many, they are so by the wide kind
 abbrev pub WorkIsTooMuchWidely : Type 0

@@ -1,4 +1,4 @@
--- What a scene comes to at a setup: whether it can be judged yet, and what the judge says, with a witness where it is bad.
+-- What a scene comes to at a setup: what the judge says, with a witness where it is bad.
 use Rattle.std.specs.Prelude.{ℕ, ℤ, Bool, false, ◌≡◌, ◌≤◌, IsTrue}
 use Rattle.page_model.specs.declared.scene.Scene.{Scene}
 use Rattle.page_model.specs.declared.setup.Setup.{Setup}
@@ -10,7 +10,6 @@ use Rattle.page_model.specs.TintOf.{IsLooseRunIn, tints_of}
 use Rattle.page_model.specs.Window.{IsPossiblyBad, IsSurelyBad, IsSurelyFlagged}
 use Rattle.enclosure_laws.specs.CauseLaws.{IsLeftOpen}
 use Rattle.enclosure_laws.specs.ExactPageLaws.{IsExactPage}
-use Rattle.frame_state.specs.Scenes.{can_be_painted}
 use Rattle.period_frames.specs.Needed.{NeedsMore}
 use Rattle.region_split.specs.Cutting.{Edges, IsCut}
 use Rattle.sweep.specs.declared.types.Reason.{Reason}
@@ -20,15 +19,10 @@ use Rattle.sweep.specs.Verdicts.{IsFirstBad, IsPossibleMost, IsSureMost, IsTooMu
 use Rattle.witness_laws.specs.Acceptance.{IsAccepted}
 use Rattle.witness_text.specs.WitnessForm.{IsInForm}
 use Rattle.page_judge.specs.declared.types.Judgement.{Judgement}
-use Rattle.page_judge.specs.declared.types.Judgement.TheVariants.{NotYet, Pass, Fail, Frames, Work, Enclosure}
-
--- a scene can be judged: its frames can be painted
-abbrev pub can_be_judged : Scene → Bool
-can_be_judged scene = can_be_painted scene
+use Rattle.page_judge.specs.declared.types.Judgement.TheVariants.{Pass, Fail, Frames, Work, Enclosure}
 
 -- so many windows have to be looked at, and neither they nor the cells in their frames are too many
 pub record IsWithinBounds (scene : Scene) (setup : Setup) (needed : ℕ) : Type 0 where
-  pub judged : IsTrue (can_be_judged scene)
   pub is_needed : IsNeeded setup (all_animations scene) needed
   pub few : needed ≤ 100000
   pub cuts : Edges
@@ -65,15 +59,13 @@ pub record IsEnclosed (scene : Scene) (setup : Setup) (start : ℕ) (x y : ℤ) 
   pub widely : IsLeftOpen wide scene setup start x y
   pub inexact : IsExactPage scene setup → ⊥
 
--- it can be judged, and more windows have to be looked at than are
-pub record IsPastFrames (scene : Scene) (setup : Setup) : Type 0 where
-  pub judged : IsTrue (can_be_judged scene)
-  pub more : NeedsMore setup (all_animations scene)
+-- more windows have to be looked at than are
+abbrev pub IsPastFrames : Scene → Setup → Type 0
+IsPastFrames scene setup = NeedsMore setup (all_animations scene)
 
--- it can be judged, and cells times frames are too many
-pub record IsPastWork (scene : Scene) (setup : Setup) (cells frames : ℕ) : Type 0 where
-  pub judged : IsTrue (can_be_judged scene)
-  pub much : IsTooMuch scene setup cells frames
+-- cells times frames are too many
+abbrev pub IsPastWork : Scene → Setup → ℕ → ℕ → Type 0
+IsPastWork scene setup cells frames = IsTooMuch scene setup cells frames
 
 -- the judgement that a reason of a sweep gives
 abbrev pub judgement_for : Reason → Judgement
@@ -83,7 +75,6 @@ judgement_for (reason.Enclosure start x y) = Enclosure start x y
 
 -- what a scene comes to, and why
 abbrev pub IsJudgement : Scene → Setup → Judgement → Type 0
-IsJudgement scene setup NotYet = can_be_judged scene ≡ false
 IsJudgement scene setup (Pass frames) = IsPass scene setup frames
 IsJudgement scene setup (Fail w) = IsFail scene setup w
 IsJudgement scene setup Frames = IsPastFrames scene setup
@@ -99,7 +90,6 @@ pub record TellSame (one other : Witness) : Type 0 where
 
 -- two answers are the same: the same cause, and the same numbers
 abbrev pub IsSameAnswer : Judgement → Judgement → Type 0
-IsSameAnswer NotYet NotYet = Unit {0}
 IsSameAnswer (Pass frames) (Pass others) = frames ≡ others
 IsSameAnswer (Fail w) (Fail other) = TellSame w other
 IsSameAnswer Frames Frames = Unit {0}

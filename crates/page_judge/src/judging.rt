@@ -1,25 +1,16 @@
-// What a scene comes to: whether it can be judged, and how it is.
-ghost use Rattle.std.specs.Prelude.{◌≡◌, IfOk, IsTrue};
+// What a scene comes to.
+ghost use Rattle.std.specs.Prelude.{◌≡◌, IfOk};
 ghost use Rattle.page_model.specs.ValidScene.{IsValid};
 ghost use Rattle.page_judge.specs.Clear.{ClearScenesAreDecided, WorkIsTooMuchWidely};
-ghost use Rattle.page_judge.specs.Judgement as definition;
 ghost use Rattle.page_judge.specs.Judgement.{IsFail, IsJudgement, OneJudgement, judgement_for};
 ghost use Rattle.sweep.specs.Verdicts as verdict;
 ghost use Rattle.sweep.specs.Verdicts.{IsReady};
 
 use crate::types::Judgement;
-use frame_state::can_be_painted;
 use page_model::{BadWindow, NoMemory, Scene, Setup, Witness};
 use std::alloc::Global;
 use sweep::{OpenFault, Reason, Sweep, Verdict};
 use witness_make::make;
-
-/// Whether a scene can be judged yet: its frames can be painted.
-pub fn can_be_judged(scene: &Scene) -> bool
-    ensures { result ≡ definition.can_be_judged scene.now }
-{
-    can_be_painted(scene)
-}
 
 /// The witness of the window in which a sweep failed its scene.
 ///
@@ -28,7 +19,6 @@ pub fn can_be_judged(scene: &Scene) -> bool
 /// `NoMemory` where memory is refused.
 fn witness_of(alloc: Global, sweep: &Sweep, bad: BadWindow) -> Result<Witness, NoMemory>
     requires ready { IsReady sweep.now }
-    requires judged { IsTrue (definition.can_be_judged sweep.now.scene) }
     requires failed { verdict.IsFail sweep.now.scene sweep.now.setup sweep.now.needed bad.start bad.x bad.y }
     ensures { IfOk result (IsFail sweep.now.scene sweep.now.setup) }
 {
@@ -52,8 +42,7 @@ fn undecided(reason: Reason) -> Judgement
 ///
 /// `NoMemory` where memory is refused.
 fn judgement_of(alloc: Global, mut sweep: Sweep) -> Result<Judgement, NoMemory>
-    requires ready { IsReady sweep }
-    requires judged { IsTrue (definition.can_be_judged sweep.scene) }
+    requires { IsReady sweep }
     ensures { IfOk result (IsJudgement sweep.scene sweep.setup) }
 {
     let verdict = sweep.run(alloc)?;
@@ -64,8 +53,8 @@ fn judgement_of(alloc: Global, mut sweep: Sweep) -> Result<Judgement, NoMemory>
     }
 }
 
-/// What a scene comes to at a setup: `NotYet` where it can't be judged, `Frames` and `Work` where there is too much to look at, and
-/// else what its windows tell, with a witness where one is bad.
+/// What a scene comes to at a setup: `Frames` and `Work` where there is too much to look at, and else what its windows tell, with a
+/// witness where one is bad.
 ///
 /// # Errors
 ///
@@ -74,9 +63,6 @@ pub fn judge(alloc: Global, scene: Scene, setup: Setup) -> Result<Judgement, NoM
     requires { IsValid scene }
     ensures { IfOk result (λ judgement. IsJudgement scene setup judgement) }
 {
-    if !can_be_judged(&scene) {
-        return Ok(Judgement::NotYet);
-    }
     match Sweep::open(alloc, scene, setup) {
         Ok(sweep) => judgement_of(alloc, sweep),
         Err(OpenFault::Frames) => Ok(Judgement::Frames),

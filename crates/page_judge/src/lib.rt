@@ -6,12 +6,11 @@
 //! cause. The answers exclude each other, by each window wherever it starts: [`one_judgement`] is the law. And a scene that stands clear
 //! of the thresholds is decided within the counted bounds: [`clear_scenes_are_decided`].
 //!
-//! It speaks of scenes, verdicts and witnesses alone: how a page is read, and how an answer is told, is the top's to say. Scenes with
-//! curves or moving boxes aren't judged yet.
+//! It speaks of scenes, verdicts and witnesses alone: how a page is read, and how an answer is told, is the top's to say.
 #![tactic(auto)]
 
 mod judging;
 mod types;
 
-pub use judging::{can_be_judged, clear_scenes_are_decided, judge, one_judgement};
+pub use judging::{clear_scenes_are_decided, judge, one_judgement};
 pub use types::Judgement;

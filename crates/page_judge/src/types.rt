@@ -4,8 +4,6 @@ use page_model::Witness;
 /// What a scene comes to at a setup.
 #[derive(Drop)]
 pub enum Judgement {
-    /// The scene is none that can be judged yet.
-    NotYet,
     /// No window is bad, from the first frame on for ever; so many windows were looked at.
     Pass { frames: u32 },
     /// A window is bad.

@@ -7,7 +7,7 @@ ghost use Rattle.page_model.specs.TintOf as definition;
 ghost use Rattle.page_model.specs.ValidScene.{IsValid};
 ghost use Rattle.flash_laws.specs.SureLaws.{IsOf};
 ghost use Rattle.tint_laws.specs.NestLaws.{LiesIn};
-ghost use Rattle.frame_state.specs.Scenes.{CanBePainted, is_cubic};
+ghost use Rattle.frame_state.specs.Scenes.{is_cubic};
 ghost use Rattle.frame_state.specs.States.{AreOwn, IsInSlots, state_as, states_as};
 ghost use Rattle.paint_blend.specs.Paint.{AreKnown, AreReady, AreStates, AreWide, IsOrdered, box_over, span_as};
 
@@ -180,7 +180,6 @@ pub fn tint_of(scene: &Scene, states: &[LayerState], x: u16, y: u16) -> Tint
 /// is a curve it is the exact colour, as both ends.
 pub fn tint(scene: &Scene, setup: &Setup, k: u64, x: u16, y: u16) -> Tint
     requires valid { IsValid scene.now }
-    requires painted { CanBePainted scene.now }
     requires frame { k < 2 ^ 32 }
     ensures own { (states : ℕ → LooseState) × AreOwn scene.now setup.now k states
         × (result ≡ definition.tint_of scene.now states x y) }

@@ -1,4 +1,3 @@
 pub mod AreaLemmas
-pub mod CalmLemmas
 pub mod SideLemmas
 pub mod VerdictLemmas

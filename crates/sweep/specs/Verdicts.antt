@@ -9,7 +9,6 @@ use Rattle.page_model.specs.Horizon.{IsNeeded, all_animations, frames_for}
 use Rattle.page_model.specs.TintOf.{IsLooseRunIn, tints_of}
 use Rattle.page_model.specs.ValidScene.{IsValid}
 use Rattle.page_model.specs.Window.{IsPossiblyBad, IsPossiblyFlagged, IsSurelyBad, IsSurelyFlagged}
-use Rattle.frame_state.specs.Scenes.{CanBePainted}
 use Rattle.period_frames.specs.Needed.{AreEnough, NeedsMore}
 pub use Rattle.period_frames.specs.Needed.{NoneEver, NoneIn}
 use Rattle.region_split.specs.Cutting.{Edges, IsCut, IsWork}
@@ -70,7 +69,6 @@ pub record Judged : Type 0 where
 
 pub record IsReady (judged : Judged) : Type 0 where
   pub valid : IsValid judged.scene
-  pub painted : CanBePainted judged.scene
   pub is_needed : IsNeeded judged.setup (all_animations judged.scene) judged.needed
   pub few : judged.needed ≤ 100000
   pub for_ever : AreEnough judged.scene judged.setup judged.needed

@@ -1,7 +1,6 @@
 // A scene that is judged at a setup.
 ghost use Rattle.std.specs.Prelude.{◌≡◌, IfOk};
 ghost use Rattle.page_model.specs.ValidScene.{IsValid};
-ghost use Rattle.frame_state.specs.Scenes.{CanBePainted};
 ghost use Rattle.sweep.specs.Verdicts.{IsOpening, IsReady, IsVerdict};
 
 use crate::types::{OpenFault, Verdict};
@@ -31,15 +30,14 @@ impl Model for Sweep {
 }
 
 impl Sweep {
-    /// Takes a scene to be judged. Its frames can be painted.
+    /// Takes a scene to be judged.
     ///
     /// # Errors
     ///
     /// `Frames` exactly where more than 100,000 windows have to be looked at; `Work` exactly where cells times the frames of these
     /// windows are more than 4,194,304; `NoMemory` where memory is refused.
     pub fn open(alloc: Global, scene: Scene, setup: Setup) -> Result<Sweep, OpenFault>
-        requires valid { IsValid scene }
-        requires painted { CanBePainted scene }
+        requires { IsValid scene }
         ensures { IsOpening scene setup result }
     {
         let Some(horizon) = needed(&scene, &setup) else {

@@ -2,7 +2,6 @@
 ghost use Rattle.std.specs.Prelude.{◌≡◌, ◌^◌, ◌<◌, length, Ok, OnOk};
 ghost use Rattle.page_model.specs.Colour.{IsBadWindow};
 ghost use Rattle.page_model.specs.ValidScene.{IsValid};
-ghost use Rattle.frame_state.specs.Scenes.{CanBePainted};
 ghost use Rattle.witness_laws.specs.Acceptance.{IsAccepted};
 ghost use Rattle.witness_checks.specs.Faults.{IsTimed};
 ghost use Rattle.witness_checks.specs.Judgement.{IsTested};
@@ -22,7 +21,6 @@ use page_model::{Scene, Setup, Witness};
 /// The first of them that fails: `WrongTint` or `NotChange`.
 fn test_tints(scene: &Scene, setup: &Setup, witness: &Witness) -> Result<(), WitnessFault>
     requires valid { IsValid scene.now }
-    requires painted { CanBePainted scene.now }
     requires few { length witness.now.parts < 2 ^ 32 }
     requires timed { IsTimed setup.now witness.now }
     ensures { IsTested scene.now setup.now witness.now result }
@@ -51,7 +49,6 @@ fn test_tints(scene: &Scene, setup: &Setup, witness: &Witness) -> Result<(), Wit
 /// The first condition that fails, at the first place where it does.
 pub fn accepts(scene: &Scene, setup: &Setup, witness: &Witness) -> Result<(), WitnessFault>
     requires valid { IsValid scene.now }
-    requires painted { CanBePainted scene.now }
     requires few { length witness.now.parts < 2 ^ 32 }
     ensures tested { IsTested scene.now setup.now witness.now result }
     ensures bad { OnOk result (IsBadWindow scene.now setup.now witness.now.start witness.now.x witness.now.y) }

@@ -1,7 +1,6 @@
 // The states of the layers in a frame, kept for the next part: the parts of one page mostly tell the same frames.
 ghost use Rattle.std.specs.Prelude.{◌≡◌, Some, length, take};
 ghost use Rattle.page_model.specs.ValidScene.{IsValid};
-ghost use Rattle.frame_state.specs.Scenes.{CanBePainted};
 ghost use Rattle.witness_checks.specs.Kept.{IsKept};
 
 use fix_span::Loose;
@@ -44,7 +43,6 @@ impl KeptStates {
     /// Computes the states in a frame, unless they are kept already.
     pub(crate) fn see(&mut self, scene: &Scene, setup: &Setup, frame: u32)
         requires valid { IsValid scene.now }
-        requires painted { CanBePainted scene.now }
         requires kept { IsKept scene.now setup.now self.old }
         ensures kept { IsKept scene.now setup.now self.new }
         ensures frame { self.new.frame ≡ Some frame }

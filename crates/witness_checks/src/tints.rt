@@ -5,7 +5,6 @@ ghost use Rattle.page_model.specs.Enclosure.{LooseRun, LooseState};
 ghost use Rattle.page_model.specs.TintOf.{tint_of as tint_by, tints_of};
 ghost use Rattle.page_model.specs.ValidScene.{IsValid};
 ghost use Rattle.page_model.specs.WitnessConditions.{HasTints};
-ghost use Rattle.frame_state.specs.Scenes.{CanBePainted};
 ghost use Rattle.frame_state.specs.States.{AreOwn, states_as};
 ghost use Rattle.paint_blend.specs.Paint.{AreReady};
 ghost use Rattle.witness_checks.specs.Faults.{HoldsOwnTints, IsTimed, IsWrongTint};
@@ -94,7 +93,6 @@ fn wrong_in_frame(
     tint: Tint,
 ) -> Option<Pixel>
     requires valid { IsValid scene.now }
-    requires painted { CanBePainted scene.now }
     requires kept { IsKept scene.now setup.now kept.old }
     requires columns { part.now.x + part.now.width < 2 ^ 16 }
     requires rows { part.now.y + part.now.height < 2 ^ 16 }
@@ -117,7 +115,6 @@ fn wrong_in_part(
     part: &Part,
 ) -> Option<WrongTurn>
     requires valid { IsValid scene.now }
-    requires painted { CanBePainted scene.now }
     requires nine { length kept.old ≡ 9 }
     requires kept { All (IsKept scene.now setup.now) kept.old }
     requires columns { part.now.x + part.now.width < 2 ^ 16 }
@@ -152,7 +149,6 @@ fn wrong_in_part(
 /// The first pixel whose tint isn't the stated one: part by part, turn by turn, row by row and column by column.
 pub(crate) fn wrong_tint(scene: &Scene, setup: &Setup, witness: &Witness) -> Option<WrongPixel>
     requires valid { IsValid scene.now }
-    requires painted { CanBePainted scene.now }
     requires few { length witness.now.parts < 2 ^ 32 }
     requires timed { IsTimed setup.now witness.now }
     ensures { MatchOption result (HoldsOwnTints scene.now setup.now witness.now)

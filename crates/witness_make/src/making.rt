@@ -6,7 +6,6 @@ ghost use Rattle.page_model.specs.Enclosure.{own};
 ghost use Rattle.page_model.specs.Time.{window_of};
 ghost use Rattle.page_model.specs.ValidScene.{IsValid};
 ghost use Rattle.page_model.specs.Window.{IsSurelyBad};
-ghost use Rattle.frame_state.specs.Scenes.{CanBePainted};
 ghost use Rattle.cell_tints.specs.Tints.{AreTintsOfCells};
 ghost use Rattle.witness_make.specs.Made.{AreCutsOf, AreParts, ArePartsBefore, IsMade};
 
@@ -72,7 +71,6 @@ fn parts_of(
     bad: BadWindow,
 ) -> Result<Vec<Part>, NoMemory>
     requires valid { IsValid scene.now }
-    requires painted { CanBePainted scene.now }
     requires cut { AreCutsOf scene.now setup.now bad.start cuts.now }
     ensures { IfOk result (λ parts. AreParts scene.now setup.now cuts.now bad.start bad.x bad.y parts.items) }
 {
@@ -108,7 +106,6 @@ pub fn make(
     bad: BadWindow,
 ) -> Result<Witness, NoMemory>
     requires valid { IsValid scene.now }
-    requires painted { CanBePainted scene.now }
     requires cut { AreCutsOf scene.now setup.now bad.start cuts.now }
     requires bad { IsSurelyBad own scene.now setup.now bad.start bad.x bad.y }
     ensures { IfOk result (λ w. IsMade scene.now setup.now cuts.now bad.start bad.x bad.y w) }

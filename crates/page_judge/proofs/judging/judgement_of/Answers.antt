@@ -8,6 +8,6 @@ use Rattle.page_judge.proofs.judging.judgement_of.Goals as goal
 pub returns : goal.returns
 returns c =
     rw c.undecided.ensures
-    (undecided-of c.args.sweep c.in-Undecided.reason c.requires.ready c.requires.judged
+    (undecided-of c.args.sweep c.in-Undecided.reason c.requires
     (subst (λ (v : Verdict). IsVerdict c.args.sweep.scene c.args.sweep.setup c.args.sweep.needed v) c.in-Undecided.is
     c.in_ok-verdict.ensures.verdict))

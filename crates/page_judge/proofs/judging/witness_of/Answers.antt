@@ -20,5 +20,5 @@ returns c =
     IfOk-weaker c.make.result
     (IsMade c.args.sweep.now.scene c.args.sweep.now.setup c.args.sweep.now.cuts c.args.bad.start c.args.bad.x c.args.bad.y)
     (IsFail c.args.sweep.now.scene c.args.sweep.now.setup)
-    (λ (w : Witness) made. fail-of c.args.sweep.now c.args.bad.start c.args.bad.x c.args.bad.y w c.requires.ready c.requires.judged c.requires.failed made)
+    (λ (w : Witness) made. fail-of c.args.sweep.now c.args.bad.start c.args.bad.x c.args.bad.y w c.requires.ready c.requires.failed made)
     (rw (← c.scene.ensures, ← c.setup.ensures, ← c.cuts.ensures) c.make.ensures)
