@@ -1,13 +1,12 @@
--- What kinds of animations a scene has: the project's own. A set of keyframes is in use where an animation of a layer has its number.
+-- Whether a scene has a cubic easing in use: the project's own. A set of keyframes is in use where an animation of a layer has its
+-- number.
 use Rattle.std.specs.Prelude.{Bool, false, Option, None, Some, ◌||◌, List, slice_get}
 use Rattle.std.specs.List.{list_any}
 use Rattle.page_model.specs.declared.animation.Anim.{Anim}
 use Rattle.page_model.specs.declared.keyframe.Keyframe.{Keyframe}
 use Rattle.page_model.specs.declared.keyframe.KeyframeSet.{KeyframeSet}
-use Rattle.page_model.specs.declared.property.Prop.TheVariants.{Left, Top, Width, Height}
 use Rattle.page_model.specs.declared.scene.Layer.{Layer}
 use Rattle.page_model.specs.declared.scene.Scene.{Scene}
-use Rattle.page_model.specs.Keyframes.{names}
 use Rattle.easing_bounds.specs.Value as easings
 
 -- an optional thing is there and passes a test
@@ -34,11 +33,3 @@ runs_curved sets anim =
 
 abbrev pub is_cubic : Scene → Bool
 is_cubic scene = some_animation (runs_curved scene.sets) scene
-
--- a set names a place or a size
-abbrev pub names_place : KeyframeSet → Bool
-names_place set = names Left set.frames || (names Top set.frames || (names Width set.frames || names Height set.frames))
-
--- a set in use does
-abbrev pub is_moving : Scene → Bool
-is_moving scene = some_animation (set_passes names_place scene.sets) scene

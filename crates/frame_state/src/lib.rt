@@ -16,12 +16,10 @@
 mod channels;
 mod layers;
 mod parts;
-mod scenes;
 mod slots;
 mod types;
 mod way;
 mod ways;
 
 pub use layers::{layer_at, states_at};
-pub use scenes::is_moving;
 pub use types::{LayerState, Shown};

@@ -1,7 +1,6 @@
 // The witness of a lamp, accepted and refused.
 ghost use Rattle.std.specs.Prelude.{◌^◌, ◌<◌, length};
 
-use frame_state::can_be_painted;
 use page_model::{Kind, List, Part, Rgb, Setup, Tint, Witness};
 use sample_pages::{lamp, scene_of};
 use std::alloc::Global;
@@ -47,8 +46,8 @@ fn fault_of(
     let style = lamp(alloc, "#000000", "#ffffff", "250ms steps(1) 20")?;
     let scene = scene_of(alloc, style.as_str(), "")?;
     let setup = Setup::new(1024, 768, rate)?;
-    if !can_be_painted(&scene) || parts.len() > 2 {
-        return Err(Fail::from("not painted"));
+    if parts.len() > 2 {
+        return Err(Fail::from("too many parts"));
     }
     let witness = Witness {
         width: 1024,

@@ -1,5 +1,5 @@
 // What pages come to, and the witness of one that flashes, against an outside reckoning.
-use page_judge::{Judgement, can_be_judged, judge};
+use page_judge::{Judgement, judge};
 use page_model::{Kind, Setup, Witness};
 use sample_pages::{lamp, scene_of};
 use std::alloc::Global;
@@ -9,9 +9,6 @@ use std::test::Fail;
 fn judged(alloc: Global, style: &str) -> Result<Judgement, Fail> {
     let scene = scene_of(alloc, style, "")?;
     let setup = Setup::new(1024, 768, 60)?;
-    if !can_be_judged(&scene) {
-        return Err(Fail::from("not judged"));
-    }
     Ok(judge(alloc, scene, setup)?)
 }
 

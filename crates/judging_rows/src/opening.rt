@@ -2,7 +2,6 @@
 ghost use Rattle.std.specs.Prelude.{IfOk};
 ghost use Rattle.sweep.specs.Verdicts.{IsReady};
 
-use frame_state::can_be_painted;
 use page_model::Setup;
 use sample_pages::scene_of;
 use std::alloc::Global;
@@ -25,9 +24,6 @@ pub fn opened(alloc: Global, shown: Shown) -> Result<Result<Sweep, OpenFault>, F
 {
     let scene = scene_of(alloc, shown.style, shown.boxes)?;
     let setup = Setup::new(shown.width, shown.height, shown.rate)?;
-    if !can_be_painted(&scene) {
-        return Err(Fail::from("not judged"));
-    }
     match Sweep::open(alloc, scene, setup) {
         Ok(sweep) => Ok(Ok(sweep)),
         Err(fault) => Ok(Err(fault)),

@@ -1,7 +1,6 @@
 // The tints of pixels, against an outside reckoning.
 ghost use Rattle.std.specs.Prelude.{◌<◌, ◌^◌};
 
-use frame_state::can_be_painted;
 use page_model::{Rgb, Setup, Tint};
 use paint_blend::tint;
 use sample_pages::scene_of;
@@ -16,9 +15,6 @@ const FADING: &str =
 fn tint_at(alloc: Global, frame: u32, x: u16, y: u16) -> Result<Tint, Fail> {
     let scene = scene_of(alloc, FADING, "<div></div>")?;
     let setup = Setup::new(100, 90, 10)?;
-    if !can_be_painted(&scene) {
-        return Err(Fail::from("not painted"));
-    }
     Ok(tint(&scene, &setup, frame as u64, x, y))
 }
 
