@@ -1,11 +1,8 @@
 -- The answers of each command exclude each other: bytes are refused for one cause, or are the page of one scene, and that comes to one answer.
-use Rattle.std.proofs.Common.{◌≡◌, ◌∙◌, ◌⊎◌, ℕ, List, inl, inr, refl, sym, ap, subst, true, false, true≢false}
-use Rattle.page_model.specs.TintOf.{single}
-use Rattle.page_model.specs.Colour.{painted as painted_by}
+use Rattle.std.proofs.Common.{◌≡◌, ◌∙◌, ◌⊎◌, ℕ, List, inl, inr, refl, sym, ap, subst}
 use Rattle.page_model.specs.Viewing.{Viewing}
+use Rattle.page_model.specs.declared.colour.Tint.{Tint}
 use Rattle.page_model.specs.declared.scene.Scene.{Scene}
-use Rattle.frame_state.specs.Scenes.{can_be_painted}
-use Rattle.paint_blend.specs.Paint.{computed_states}
 use Rattle.page_judge.specs.Judgement.{IsJudgement}
 use Rattle.page_judge.specs.declared.types.Judgement.{Judgement}
 use Rattle.page_judge.specs.declared.types.Judgement.TheVariants.{NotYet as Unjudged, Pass as Passed, Fail as Failed, Frames, Work, Enclosure}
@@ -13,7 +10,7 @@ use Rattle.page_judge.proofs.OneLemmas.{one-answer}
 use Rattle.flash_top.specs.Refusals.{IsLoadedAs}
 use Rattle.flash_top.specs.SameAnswers.{AreEqual, OneTint, OneVerdict, TellSame}
 use Rattle.flash_top.specs.Steps.{IsRefusedAs, told}
-use Rattle.flash_top.specs.Verdicts.{IsTinted, IsVerdict}
+use Rattle.flash_top.specs.Verdicts.{IsPainted, IsTinted, IsVerdict}
 use Rattle.flash_words.specs.Words.{Spot}
 use Rattle.flash_top.specs.declared.outcome.Outcome.{Outcome}
 use Rattle.flash_top.specs.declared.outcome.Outcome.TheVariants.{WordsRefused, ReadFault, Refused, NotYet, Pass, Fail, TooManyFrames, TooMuchWork, Enclosed, NoWitness, Unaccepted, Accepted, Painted, Lit, Shown, NoMemory}
@@ -79,18 +76,17 @@ one_verdict setup bytes one other is also =
 
 -- ---- tint
 
--- it can't be painted, or the tint is that by the computed states
-TellsTint : Viewing → Spot → Scene → Outcome → Type 0
-TellsTint setup spot scene outcome =
-    ((can_be_painted scene ≡ false) × (outcome ≡ NotYet))
-    ⊎ ((can_be_painted scene ≡ true) × (outcome ≡ Painted (single (painted_by scene (computed_states scene setup spot.frame) spot.column spot.row))))
+-- it tells a tint by states of the own kind, whichever
+record TellsTint (setup : Viewing) (spot : Spot) (scene : Scene) (outcome : Outcome) : Type 0 where
+  pub tint : Tint
+  pub painted : IsPainted scene setup spot tint
+  pub told_is : outcome ≡ Painted tint
 
 tint_cause : (setup : Viewing) (spot : Spot) (bytes : List ℕ) (outcome : Outcome) → IsTinted setup spot bytes outcome → HasCause bytes (TellsTint setup spot) outcome
-unfolding TellsTint
 tint_cause setup spot bytes WordsRefused h = absurd h
 tint_cause setup spot bytes ReadFault h = absurd h
 tint_cause setup spot bytes (Refused refusal) h = inr (inl (record { refusal = refusal; cause = h; told = refl }))
-tint_cause setup spot bytes NotYet h = inr (inr (record { scene = h.scene; loaded = h.loaded; tells = inl (h.holds, refl) }))
+tint_cause setup spot bytes NotYet h = absurd h
 tint_cause setup spot bytes (Pass frames) h = absurd h
 tint_cause setup spot bytes (Fail witness) h = absurd h
 tint_cause setup spot bytes TooManyFrames h = absurd h
@@ -99,17 +95,19 @@ tint_cause setup spot bytes (Enclosed start x y) h = absurd h
 tint_cause setup spot bytes NoWitness h = absurd h
 tint_cause setup spot bytes (Unaccepted fault) h = absurd h
 tint_cause setup spot bytes (Accepted start area) h = absurd h
-tint_cause setup spot bytes (Painted tint) h = inr (inr (record { scene = h.scene; loaded = h.loaded; tells = inr (h.holds.painted, ap Painted h.holds.computed) }))
+tint_cause setup spot bytes (Painted tint) h =
+    inr (inr (record { scene = h.scene; loaded = h.loaded; tells = record { tint = tint; painted = h.holds; told_is = refl } }))
 tint_cause setup spot bytes (Lit light) h = absurd h
 tint_cause setup spot bytes (Shown number judgement) h = absurd h
 tint_cause setup spot bytes NoMemory h = inl refl
 
+-- two of them are equal
 same_tint : (setup : Viewing) (spot : Spot) (one other : Outcome) (scene : Scene) → TellsTint setup spot scene one → TellsTint setup spot scene other → AreEqual one other ⊎ ⊥
-unfolding TellsTint
-same_tint setup spot one other scene (inl is) (inl also) = inl (inr (inr (also.1 ∙ sym is.1)))
-same_tint setup spot one other scene (inl is) (inr also) = absurd (true≢false (sym also.0 ∙ is.0))
-same_tint setup spot one other scene (inr is) (inl also) = absurd (true≢false (sym is.0 ∙ also.0))
-same_tint setup spot one other scene (inr is) (inr also) = inl (inr (inr (also.1 ∙ sym is.1)))
+same_tint setup spot one other scene is also =
+    let states = is.painted.states in
+    let own_states = is.painted.own_states in
+    let same : also.tint ≡ is.tint = also.painted.is states own_states ∙ sym (is.painted.is states own_states) in
+    inl (inr (inr (also.told_is ∙ ap Painted same ∙ sym is.told_is)))
 
 agree : (one other : Outcome) → AreEqual one other ⊎ ⊥ → AreEqual one other
 agree one other (inl same) = same

@@ -1,14 +1,17 @@
 -- The cause of each answer to the bytes of a page, and of a witness: the headline speaks of scenes, judgements and witnesses.
-use Rattle.std.specs.Prelude.{ℕ, ◌≡◌, ◌<◌, ◌≤◌, ◌⊎◌, false, IsTrue, List, length, ⊤}
+use Rattle.std.specs.Prelude.{ℕ, ◌≡◌, ◌<◌, ◌≤◌, ◌⊎◌, false, List, length, ⊤}
 use Rattle.page_model.specs.Colour.{IsBadWindow, painted as painted_by}
+use Rattle.page_model.specs.Enclosure.{LooseState}
 use Rattle.page_model.specs.LayerAt.{State}
-use Rattle.page_model.specs.TintOf.{single}
+use Rattle.page_model.specs.TintOf.{single, tint_of}
 use Rattle.page_model.specs.Viewing.{Viewing}
 use Rattle.page_model.specs.declared.colour.Tint.{Tint}
 use Rattle.page_model.specs.declared.scene.Scene.{Scene}
 use Rattle.page_model.specs.declared.witness.Witness.{Witness}
-use Rattle.frame_state.specs.Scenes.{CanBePainted, can_be_painted}
-use Rattle.paint_blend.specs.Paint.{AreStates, computed_states}
+use Rattle.flash_laws.specs.SureLaws.{IsOf}
+use Rattle.frame_state.specs.Scenes.{is_cubic}
+use Rattle.frame_state.specs.States.{AreOwn}
+use Rattle.paint_blend.specs.Paint.{AreStates}
 use Rattle.page_judge.specs.Judgement.{IsEnclosed, IsFail, IsPass, IsPastFrames, IsPastWork, can_be_judged}
 use Rattle.witness_laws.specs.Acceptance.{IsAccepted}
 use Rattle.witness_checks.specs.Faults.{IsFirstFault}
@@ -57,14 +60,8 @@ pub record IsWitnessFile (bytes : List ℕ) (witness : Witness) : Type 0 where
 abbrev pub IsNoWitness : List ℕ → Type 0
 IsNoWitness bytes = (witness_limit < length bytes) ⊎ ((witness : Witness) → IsTextOf bytes witness → ⊥)
 
--- the scene can be judged, and the bytes are no witness
-pub record HasNoWitness (scene : Scene) (bytes : List ℕ) : Type 0 where
-  pub judged : IsTrue (can_be_judged scene)
-  pub none : IsNoWitness bytes
-
--- the scene can be judged, and the bytes are a witness of which something holds
-pub record HasWitness (scene : Scene) (bytes : List ℕ) (Holds : Witness → Type 0) : Type 0 where
-  pub judged : IsTrue (can_be_judged scene)
+-- the bytes are a witness of which something holds
+pub record HasWitness (bytes : List ℕ) (Holds : Witness → Type 0) : Type 0 where
   pub witness : Witness
   pub is_file : IsWitnessFile bytes witness
   pub holds : Holds witness
@@ -81,33 +78,36 @@ abbrev pub IsVerified : Viewing → List ℕ → List ℕ → Outcome → Type 0
 IsVerified setup bytes text WordsRefused = ⊥
 IsVerified setup bytes text ReadFault = ⊥
 IsVerified setup bytes text (Refused refusal) = IsRefusal bytes refusal
-IsVerified setup bytes text NotYet = IsPageOf bytes (λ scene. can_be_judged scene ≡ false)
+IsVerified setup bytes text NotYet = ⊥
 IsVerified setup bytes text (Pass frames) = ⊥
 IsVerified setup bytes text (Fail witness) = ⊥
 IsVerified setup bytes text TooManyFrames = ⊥
 IsVerified setup bytes text (TooMuchWork cells frames) = ⊥
 IsVerified setup bytes text (Enclosed start x y) = ⊥
-IsVerified setup bytes text NoWitness = IsPageOf bytes (λ scene. HasNoWitness scene text)
-IsVerified setup bytes text (Unaccepted fault) = IsPageOf bytes (λ scene. HasWitness scene text (λ witness. IsFirstFault scene setup witness fault))
-IsVerified setup bytes text (Accepted start area) = IsPageOf bytes (λ scene. HasWitness scene text (λ witness. IsGoodWitness scene setup witness start area))
+IsVerified setup bytes text NoWitness = IsPageOf bytes (λ scene. IsNoWitness text)
+IsVerified setup bytes text (Unaccepted fault) = IsPageOf bytes (λ scene. HasWitness text (λ witness. IsFirstFault scene setup witness fault))
+IsVerified setup bytes text (Accepted start area) = IsPageOf bytes (λ scene. HasWitness text (λ witness. IsGoodWitness scene setup witness start area))
 IsVerified setup bytes text (Painted tint) = ⊥
 IsVerified setup bytes text (Lit light) = ⊥
 IsVerified setup bytes text (Shown number judgement) = ⊥
 IsVerified setup bytes text NoMemory = ⊤
 
--- The scene can be painted, and by the exact states of its layers in the frame, whatever they are, the pixel has this one colour at both
--- ends of the tint; and so it has by the states that are computed.
+-- There are states of the layers in the frame by the own kind of enclosure, and by them, whichever, this is the pixel's tint. By the exact
+-- states, whatever they are, the pixel's colour lies in it, and is both of its ends where no easing is a curve.
 pub record IsPainted (scene : Scene) (setup : Viewing) (spot : Spot) (tint : Tint) : Type 0 where
-  pub painted : CanBePainted scene
-  pub exact : (states : ℕ → State) → AreStates scene setup spot.frame states → tint ≡ single (painted_by scene states spot.column spot.row)
-  pub computed : tint ≡ single (painted_by scene (computed_states scene setup spot.frame) spot.column spot.row)
+  pub states : ℕ → LooseState
+  pub own_states : AreOwn scene setup spot.frame states
+  pub is : (states : ℕ → LooseState) → AreOwn scene setup spot.frame states → tint ≡ tint_of scene states spot.column spot.row
+  pub holds : (states : ℕ → State) → AreStates scene setup spot.frame states → IsOf tint (painted_by scene states spot.column spot.row)
+  pub exact : is_cubic scene ≡ false → (states : ℕ → State) → AreStates scene setup spot.frame states
+      → tint ≡ single (painted_by scene states spot.column spot.row)
 
--- what the bytes of a page come to for the tint of a pixel, and why: it can't be painted yet where a curve eases or a box moves
+-- what the bytes of a page come to for the tint of a pixel, and why
 abbrev pub IsTinted : Viewing → Spot → List ℕ → Outcome → Type 0
 IsTinted setup spot bytes WordsRefused = ⊥
 IsTinted setup spot bytes ReadFault = ⊥
 IsTinted setup spot bytes (Refused refusal) = IsRefusal bytes refusal
-IsTinted setup spot bytes NotYet = IsPageOf bytes (λ scene. can_be_painted scene ≡ false)
+IsTinted setup spot bytes NotYet = ⊥
 IsTinted setup spot bytes (Pass frames) = ⊥
 IsTinted setup spot bytes (Fail witness) = ⊥
 IsTinted setup spot bytes TooManyFrames = ⊥

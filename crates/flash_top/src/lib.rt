@@ -3,7 +3,7 @@
 //! [`run`] is the call that `main` makes, and its clause is the headline of the whole: there is an outcome
 //! whose cause holds, and what was written is the text of that outcome. A pass means that no window of the
 //! page is bad, from the first frame on for ever; a fail, that the text is a witness of the first bad window.
-//! The tint of a pixel is its exact colour in the frame.
+//! The tint of a pixel holds its exact colour in the frame, and is that colour where no easing is a curve.
 //!
 //! The way of a run: `flash_words` finds the command, `obeying` hands it on, `opening` reads and loads what its words name,
 //! `checking` has the scene judged, `verifying` has a witness of it tested, `tinting` paints a pixel, `lighting` tells how light a

@@ -1,4 +1,4 @@
-// What a page comes to by `tint`: it is opened, and where its scene can be painted, the pixel is.
+// What a page comes to by `tint`: it is opened, and the pixel is painted.
 ghost use Rattle.std.specs.Prelude.{ℕ, ◌≡◌, List};
 ghost use Rattle.page_model.specs.ValidScene.{IsValid};
 ghost use Rattle.flash_top.specs.Files.{HasFile, OrUnread};
@@ -7,7 +7,6 @@ ghost use Rattle.flash_top.specs.Verdicts.{IsTinted};
 
 use crate::opening::open_page;
 use crate::outcome::Outcome;
-use frame_state::can_be_painted;
 use io_edge::Source;
 use page_model::{Scene, Setup};
 use std::alloc::Global;
@@ -44,9 +43,6 @@ fn paint(scene: &Scene, setup: Setup, spot: Spot) -> Outcome
     ensures { (bytes : List ℕ) → IsLoadedAs bytes scene.now
         → IsTinted setup (record { frame = spot.frame; column = spot.column; row = spot.row }) bytes result }
 {
-    if can_be_painted(scene) {
-        let Spot { frame, column, row } = spot;
-        return Outcome::Painted(paint_blend::tint(scene, &setup, frame as u64, column, row));
-    }
-    Outcome::NotYet
+    let Spot { frame, column, row } = spot;
+    Outcome::Painted(paint_blend::tint(scene, &setup, frame as u64, column, row))
 }

@@ -1,6 +1,5 @@
-// What a page and a witness come to by `verify`: the page is opened, and where it can be judged, the witness is opened and tested.
-ghost use Rattle.std.specs.Prelude.{ℕ, ◌≡◌, ◌^◌, ◌<◌, IsTrue, List, length};
-ghost use Rattle.page_judge.specs.Judgement as judgement;
+// What a page and a witness come to by `verify`: the page is opened, and then the witness is opened and tested.
+ghost use Rattle.std.specs.Prelude.{ℕ, ◌≡◌, ◌^◌, ◌<◌, List, length};
 ghost use Rattle.page_model.specs.ValidScene.{IsValid};
 ghost use Rattle.flash_top.specs.Files.{HasFile, OrUnread};
 ghost use Rattle.flash_top.specs.Refusals.{IsLoadedAs};
@@ -10,7 +9,6 @@ use crate::opening::{open_page, open_witness};
 use crate::outcome::Outcome;
 use flash_witness::accepts;
 use io_edge::Source;
-use page_judge::can_be_judged;
 use page_model::{Scene, Setup, Witness};
 use std::alloc::Global;
 
@@ -33,8 +31,7 @@ pub(crate) fn verify<S: Source>(
     }
 }
 
-/// What the bytes of a page come to whose scene this is, with the witness in the file of this name. The file isn't opened where the
-/// scene can't be judged.
+/// What the bytes of a page come to whose scene this is, with the witness in the file of this name.
 fn verify_on<S: Source>(
     alloc: Global,
     scene: &Scene,
@@ -47,9 +44,6 @@ fn verify_on<S: Source>(
     ensures { (bytes : List ℕ) → IsLoadedAs bytes scene.now → OrUnread (S.faults source.old) (S.faults source.new) result
         (HasFile (S.files source.old) witness.now (λ text. IsVerified setup bytes text result)) }
 {
-    if !can_be_judged(scene) {
-        return Outcome::NotYet;
-    }
     match open_witness(alloc, witness, source) {
         Ok(witness) => test(scene, setup, &witness),
         Err(outcome) => outcome,
@@ -59,7 +53,6 @@ fn verify_on<S: Source>(
 /// What the bytes of a page come to whose scene this is, with those of a file that tells this witness.
 fn test(scene: &Scene, setup: Setup, witness: &Witness) -> Outcome
     requires valid { IsValid scene.now }
-    requires judged { IsTrue (judgement.can_be_judged scene.now) }
     requires few { length witness.now.parts < 2 ^ 32 }
     ensures { (bytes text : List ℕ) → IsLoadedAs bytes scene.now → IsWitnessFile text witness.now → IsVerified setup bytes text result }
 {
