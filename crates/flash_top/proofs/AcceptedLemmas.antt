@@ -11,7 +11,7 @@ use Rattle.witness_text.proofs.ReadLemmas.{one_witness}
 use Rattle.flash_top.specs.SameAnswers.{AreEqual, OneVerified, TellFaults}
 use Rattle.flash_top.specs.Verdicts.{HasWitness, IsGoodWitness, IsNoWitness, IsVerdict, IsVerified, IsWitnessFile}
 use Rattle.flash_top.specs.declared.outcome.Outcome.{Outcome}
-use Rattle.flash_top.specs.declared.outcome.Outcome.TheVariants.{WordsRefused, ReadFault, Refused, NotYet, Pass, Fail, TooManyFrames, TooMuchWork, Enclosed, NoWitness, Unaccepted, Accepted, Painted, Lit, Shown, NoMemory}
+use Rattle.flash_top.specs.declared.outcome.Outcome.TheVariants.{WordsRefused, ReadFault, Refused, Pass, Fail, TooManyFrames, TooMuchWork, Enclosed, NoWitness, Unaccepted, Accepted, Painted, Lit, Shown, NoMemory}
 use Rattle.flash_top.proofs.AnswerLemmas.{HasCause, causes_agree}
 
 -- what an outcome tells of a scene and the bytes of a witness
@@ -38,7 +38,6 @@ verified_cause : (setup : Viewing) (bytes text : List â„•) (outcome : Outcome) â
 verified_cause setup bytes text WordsRefused h = absurd h
 verified_cause setup bytes text ReadFault h = absurd h
 verified_cause setup bytes text (Refused refusal) h = inr (inl (record { refusal = refusal; cause = h; told = refl }))
-verified_cause setup bytes text NotYet h = absurd h
 verified_cause setup bytes text (Pass frames) h = absurd h
 verified_cause setup bytes text (Fail witness) h = absurd h
 verified_cause setup bytes text TooManyFrames h = absurd h

@@ -5,7 +5,7 @@ use Rattle.page_model.specs.declared.colour.Tint.{Tint}
 use Rattle.page_model.specs.declared.scene.Scene.{Scene}
 use Rattle.page_judge.specs.Judgement.{IsJudgement}
 use Rattle.page_judge.specs.declared.types.Judgement.{Judgement}
-use Rattle.page_judge.specs.declared.types.Judgement.TheVariants.{NotYet as Unjudged, Pass as Passed, Fail as Failed, Frames, Work, Enclosure}
+use Rattle.page_judge.specs.declared.types.Judgement.TheVariants.{Pass as Passed, Fail as Failed, Frames, Work, Enclosure}
 use Rattle.page_judge.proofs.OneLemmas.{one-answer}
 use Rattle.flash_top.specs.Refusals.{IsLoadedAs}
 use Rattle.flash_top.specs.SameAnswers.{AreEqual, OneTint, OneVerdict, TellSame}
@@ -13,7 +13,7 @@ use Rattle.flash_top.specs.Steps.{IsRefusedAs, told}
 use Rattle.flash_top.specs.Verdicts.{IsPainted, IsTinted, IsVerdict}
 use Rattle.flash_words.specs.Words.{Spot}
 use Rattle.flash_top.specs.declared.outcome.Outcome.{Outcome}
-use Rattle.flash_top.specs.declared.outcome.Outcome.TheVariants.{WordsRefused, ReadFault, Refused, NotYet, Pass, Fail, TooManyFrames, TooMuchWork, Enclosed, NoWitness, Unaccepted, Accepted, Painted, Lit, Shown, NoMemory}
+use Rattle.flash_top.specs.declared.outcome.Outcome.TheVariants.{WordsRefused, ReadFault, Refused, Pass, Fail, TooManyFrames, TooMuchWork, Enclosed, NoWitness, Unaccepted, Accepted, Painted, Lit, Shown, NoMemory}
 use Rattle.flash_top.proofs.RefusalLemmas.{loaded_once, one_cause, refused_or_loaded}
 
 -- what an outcome tells of bytes: want of memory, a refusal, or something of their scene
@@ -49,7 +49,6 @@ pub verdict_cause : (setup : Viewing) (bytes : List ℕ) (outcome : Outcome) →
 verdict_cause setup bytes WordsRefused h = absurd h
 verdict_cause setup bytes ReadFault h = absurd h
 verdict_cause setup bytes (Refused refusal) h = inr (inl (record { refusal = refusal; cause = h; told = refl }))
-verdict_cause setup bytes NotYet h = inr (inr (record { scene = h.scene; loaded = h.loaded; tells = record { judgement = Unjudged; judged = h.holds; told_is = refl } }))
 verdict_cause setup bytes (Pass frames) h = inr (inr (record { scene = h.scene; loaded = h.loaded; tells = record { judgement = Passed frames; judged = h.holds; told_is = refl } }))
 verdict_cause setup bytes (Fail witness) h = inr (inr (record { scene = h.scene; loaded = h.loaded; tells = record { judgement = Failed witness; judged = h.holds; told_is = refl } }))
 verdict_cause setup bytes TooManyFrames h = inr (inr (record { scene = h.scene; loaded = h.loaded; tells = record { judgement = Frames; judged = h.holds; told_is = refl } }))
@@ -86,7 +85,6 @@ tint_cause : (setup : Viewing) (spot : Spot) (bytes : List ℕ) (outcome : Outco
 tint_cause setup spot bytes WordsRefused h = absurd h
 tint_cause setup spot bytes ReadFault h = absurd h
 tint_cause setup spot bytes (Refused refusal) h = inr (inl (record { refusal = refusal; cause = h; told = refl }))
-tint_cause setup spot bytes NotYet h = absurd h
 tint_cause setup spot bytes (Pass frames) h = absurd h
 tint_cause setup spot bytes (Fail witness) h = absurd h
 tint_cause setup spot bytes TooManyFrames h = absurd h

@@ -7,7 +7,7 @@ use Rattle.io_edge.specs.Files.{Files, bytes_of}
 use Rattle.page_judge.specs.Clear.{IsPassOrFail}
 use Rattle.page_judge.specs.Judgement.{IsJudgement}
 use Rattle.page_judge.specs.declared.types.Judgement.{Judgement}
-use Rattle.page_judge.specs.declared.types.Judgement.TheVariants.{NotYet, Pass, Fail, Frames, Work, Enclosure}
+use Rattle.page_judge.specs.declared.types.Judgement.TheVariants.{Pass, Fail, Frames, Work, Enclosure}
 use Rattle.page_judge.proofs.ClearLemmas.{clear-decided}
 use Rattle.flash_words.specs.Words.{Spells, word_at}
 use Rattle.flash_words.specs.declared.words.Command.{Command}
@@ -23,7 +23,6 @@ use Rattle.flash_top.proofs.AnswerLemmas.{HasCause, TellsJudgement, verdict_caus
 use Rattle.flash_top.proofs.RefusalLemmas.{loaded_once, refused_or_loaded}
 
 decision-told : (judgement : Judgement) → IsPassOrFail judgement → IsDecision (told judgement)
-decision-told NotYet is = is
 decision-told (Pass frames) is = tt
 decision-told (Fail witness) is = tt
 decision-told Frames is = is
@@ -37,7 +36,7 @@ decision-of setup bytes outcome page (inr (inl is)) = absurd (refused_or_loaded 
 decision-of setup bytes outcome page (inr (inr is)) =
     let judged = subst (λ (scene : Scene). IsJudgement scene setup is.tells.judgement) (loaded_once bytes page.scene is.scene page.loaded is.loaded) is.tells.judged in
     subst IsDecision (sym is.tells.told_is)
-    (decision-told is.tells.judgement (clear-decided page.scene setup is.tells.judgement page.judged page.counts page.clear judged))
+    (decision-told is.tells.judgement (clear-decided page.scene setup is.tells.judgement page.counts page.clear judged))
 
 pub clear-decision : ClearPagesAreDecided
 clear-decision setup bytes outcome page is = decision-of setup bytes outcome page (verdict_cause setup bytes outcome is)

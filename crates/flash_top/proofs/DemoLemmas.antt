@@ -4,17 +4,17 @@ use Rattle.page_gen.specs.GeneratedPage.{generated_page}
 use Rattle.page_judge.proofs.OneLemmas.{one-answer}
 use Rattle.page_judge.specs.Judgement.{IsJudgement, IsSameAnswer}
 use Rattle.page_judge.specs.declared.types.Judgement.{Judgement}
-use Rattle.page_judge.specs.declared.types.Judgement.TheVariants.{NotYet as Unjudged, Pass as Passed, Fail as Failed, Frames, Work, Enclosure}
+use Rattle.page_judge.specs.declared.types.Judgement.TheVariants.{Pass as Passed, Fail as Failed, Frames, Work, Enclosure}
 use Rattle.page_model.specs.Viewing.{Viewing}
 use Rattle.page_model.specs.declared.scene.Scene.{Scene}
 use Rattle.flash_top.proofs.AnswerLemmas.{HasCause, causes_agree}
-use Rattle.flash_top.specs.Demos.{IsDemo, IsShown, shown_as}
+use Rattle.flash_top.specs.Demos.{IsDemo, IsShown}
 use Rattle.flash_top.specs.Refusals.{IsLoadedAs, IsRefusal}
 use Rattle.flash_top.specs.SameAnswers.{AreEqual, AreToldAlike, OneDemo}
 use Rattle.flash_top.specs.Steps.{IsUnloaded}
 use Rattle.flash_top.specs.Texts.{status_of, text_of}
 use Rattle.flash_top.specs.declared.outcome.Outcome.{Outcome}
-use Rattle.flash_top.specs.declared.outcome.Outcome.TheVariants.{Refused, NotYet, Shown, NoMemory}
+use Rattle.flash_top.specs.declared.outcome.Outcome.TheVariants.{Refused, Shown, NoMemory}
 
 pub unloaded_demo : (setup : Viewing) (number : ℕ) (bytes : List ℕ) (outcome : Outcome) → bytes ≡ generated_page number → IsUnloaded bytes outcome
     → IsDemo setup number outcome
@@ -23,16 +23,14 @@ unloaded_demo setup number bytes outcome made (inr is) =
     subst (IsDemo setup number) (sym is.told) (subst (λ (bytes : List ℕ). IsRefusal bytes is.refusal) made is.cause)
 
 pub judged_demo : (setup : Viewing) (number : ℕ) (scene : Scene) (judgement : Judgement) → IsLoadedAs (generated_page number) scene
-    → IsJudgement scene setup judgement → IsDemo setup number (shown_as number judgement)
-judged_demo setup number scene Unjudged loaded is = record { scene = scene; loaded = loaded; holds = is }
+    → IsJudgement scene setup judgement → IsDemo setup number (Shown number judgement)
 judged_demo setup number scene judgement loaded is =
-    record { number_is = refl; judged = tt; verdict = record { scene = scene; loaded = loaded; holds = is } }
+    record { number_is = refl; verdict = record { scene = scene; loaded = loaded; holds = is } }
 
 -- ---- one text
 
 -- judgements that are the same answer are told alike
-told_alike : (number : ℕ) (first second : Judgement) → IsSameAnswer first second → AreToldAlike (shown_as number first) (shown_as number second)
-told_alike number Unjudged Unjudged same = record { text = refl; status = refl }
+told_alike : (number : ℕ) (first second : Judgement) → IsSameAnswer first second → AreToldAlike (Shown number first) (Shown number second)
 told_alike number (Passed frames) (Passed others) same = record { text = rw same refl; status = refl }
 told_alike number (Failed w) (Failed other) same = record { text = rw (same.start, same.x, same.y, same.area) refl; status = refl }
 told_alike number Frames Frames same = record { text = refl; status = refl }
@@ -45,18 +43,16 @@ told_alike number first second same = absurd same
 record TellsSum (setup : Viewing) (number : ℕ) (scene : Scene) (outcome : Outcome) : Type 0 where
   pub judgement : Judgement
   pub judged : IsJudgement scene setup judgement
-  pub told_is : outcome ≡ shown_as number judgement
+  pub told_is : outcome ≡ Shown number judgement
 
 sum_cause : (setup : Viewing) (number shown : ℕ) (judgement : Judgement) → IsShown setup number shown judgement
     → HasCause (generated_page number) (TellsSum setup number) (Shown shown judgement)
-sum_cause setup number shown Unjudged h = absurd h.judged
 sum_cause setup number shown judgement h =
     let is = h.verdict in
     inr (inr (record { scene = is.scene; loaded = is.loaded; tells = record { judgement = judgement; judged = is.holds; told_is = rw h.number_is refl } }))
 
 demo_cause : (setup : Viewing) (number : ℕ) (outcome : Outcome) → IsDemo setup number outcome → HasCause (generated_page number) (TellsSum setup number) outcome
 demo_cause setup number (Refused refusal) h = inr (inl (record { refusal = refusal; cause = h; told = refl }))
-demo_cause setup number NotYet h = inr (inr (record { scene = h.scene; loaded = h.loaded; tells = record { judgement = Unjudged; judged = h.holds; told_is = refl } }))
 demo_cause setup number (Shown shown judgement) h = sum_cause setup number shown judgement h
 demo_cause setup number NoMemory h = inl refl
 demo_cause setup number other h = absurd h

@@ -1,11 +1,10 @@
 -- Which pages `check` decides: those that are loaded, within the counted bounds, and clear of the thresholds.
-use Rattle.std.specs.Prelude.{ℕ, IsTrue, List, Some}
+use Rattle.std.specs.Prelude.{ℕ, List, Some}
 use Rattle.page_model.specs.Viewing.{Viewing}
 use Rattle.page_model.specs.declared.scene.Scene.{Scene}
 use Rattle.io_edge.specs.Faults.{Rose}
 use Rattle.io_edge.specs.Files.{Files, bytes_of}
 use Rattle.page_judge.specs.Clear.{IsClear, IsWithinCounts}
-use Rattle.page_judge.specs.Judgement.{can_be_judged}
 use Rattle.flash_words.specs.Words.{Spells, word_at}
 use Rattle.flash_words.specs.declared.words.Command.TheVariants.{Check}
 use Rattle.flash_top.specs.Outcomes.{IsOutcome}
@@ -18,7 +17,6 @@ use Rattle.flash_top.specs.declared.outcome.Outcome.TheVariants.{Pass, Fail, NoM
 pub record IsClearPage (setup : Viewing) (bytes : List ℕ) : Type 0 where
   pub scene : Scene
   pub loaded : IsLoadedAs bytes scene
-  pub judged : IsTrue (can_be_judged scene)
   pub counts : IsWithinCounts scene setup
   pub clear : IsClear scene setup
 

@@ -1,11 +1,11 @@
 -- What the steps of a command come to, as it is told: a file that isn't read as a page or as a witness, and a scene that is judged.
 use Rattle.std.specs.Prelude.{ℕ, ◌≡◌, ◌⊎◌, List}
 use Rattle.page_judge.specs.declared.types.Judgement.{Judgement}
-use Rattle.page_judge.specs.declared.types.Judgement.TheVariants.{NotYet as Unjudged, Pass as Passed, Fail as Failed, Frames, Work, Enclosure}
+use Rattle.page_judge.specs.declared.types.Judgement.TheVariants.{Pass as Passed, Fail as Failed, Frames, Work, Enclosure}
 use Rattle.flash_top.specs.Refusals.{IsRefusal}
 use Rattle.flash_top.specs.Verdicts.{IsNoWitness}
 use Rattle.flash_top.specs.declared.outcome.Outcome.{Outcome}
-use Rattle.flash_top.specs.declared.outcome.Outcome.TheVariants.{Refused, NotYet, Pass, Fail, TooManyFrames, TooMuchWork, Enclosed, NoWitness, NoMemory}
+use Rattle.flash_top.specs.declared.outcome.Outcome.TheVariants.{Refused, Pass, Fail, TooManyFrames, TooMuchWork, Enclosed, NoWitness, NoMemory}
 use Rattle.flash_top.specs.declared.refusal.PageRefusal.{PageRefusal}
 
 -- the bytes are refused for a cause, and that is told
@@ -28,7 +28,6 @@ IsUnknown bytes outcome = (outcome ≡ NoMemory) ⊎ IsToldUnknown bytes outcome
 
 -- a judgement as it is told
 abbrev pub told : Judgement → Outcome
-told Unjudged = NotYet
 told (Passed frames) = Pass frames
 told (Failed witness) = Fail witness
 told Frames = TooManyFrames

@@ -3,7 +3,7 @@ use Rattle.std.specs.Prelude.{ℕ, ℤ, ◌≡◌, ◌⊎◌, List, [], ◌∷�
 use Rattle.std.specs.Fmt.{signed_decimal}
 use Rattle.witness_checks.specs.Faults.{condition_of}
 use Rattle.flash_top.specs.declared.outcome.Outcome.{Outcome}
-use Rattle.flash_top.specs.declared.outcome.Outcome.TheVariants.{WordsRefused, ReadFault, Refused, NotYet, Pass, Fail, TooManyFrames, TooMuchWork, Enclosed, NoWitness, Unaccepted, Accepted, Painted, Lit, Shown, NoMemory}
+use Rattle.flash_top.specs.declared.outcome.Outcome.TheVariants.{WordsRefused, ReadFault, Refused, Pass, Fail, TooManyFrames, TooMuchWork, Enclosed, NoWitness, Unaccepted, Accepted, Painted, Lit, Shown, NoMemory}
 use Rattle.flash_top.specs.declared.refusal.PageRefusal.{PageRefusal}
 use Rattle.flash_top.specs.declared.refusal.PageRefusal.TheVariants.{TooLong, BadText, TooManyBoxes, BadSheet, UnknownProperty, BadValue, BadKeyframes, OverLimit, NotPlaced, BodyProperty, TooManyAnimations}
 use Rattle.flash_top.specs.declared.status.Status.{Status}
@@ -12,7 +12,7 @@ use Rattle.witness_text.specs.TintText.{colour_text, is_single}
 use Rattle.witness_text.specs.WitnessForm.{IsToldRate}
 use Rattle.witness_text.specs.WitnessText.{witness_text}
 use Rattle.page_judge.specs.declared.types.Judgement.{Judgement}
-use Rattle.page_judge.specs.declared.types.Judgement.TheVariants.{NotYet as Unjudged, Pass as Passed, Fail as Failed, Frames, Work, Enclosure}
+use Rattle.page_judge.specs.declared.types.Judgement.TheVariants.{Pass as Passed, Fail as Failed, Frames, Work, Enclosure}
 use Rattle.page_model.specs.declared.colour.Tint.{Tint}
 use Rattle.page_model.specs.declared.witness.Witness.{Witness}
 use Rattle.flash_top.specs.declared.outcome.Light.{Light}
@@ -43,10 +43,7 @@ light_line light =
     codes "lin " ++ (decimal light.red ++ 32 ∷ (decimal light.green ++ 32 ∷ (decimal light.blue ++ (codes ", luma " ++ (decimal light.luma
     ++ (if light.saturated then codes ", red yes" else codes ", red no"))))))
 
--- the lines for a page that isn't judged, or without a witness
-abbrev pub unjudged_line : List ℕ
-unjudged_line = codes "page: not yet"
-
+-- the lines for a page that is judged without a witness
 abbrev pub pass_line : ℕ → List ℕ
 pass_line frames = codes "pass: frames " ++ decimal frames
 
@@ -68,7 +65,6 @@ fail_line witness =
 
 -- the line that sums up what a page comes to
 abbrev pub summary_line : Judgement → List ℕ
-summary_line Unjudged = unjudged_line
 summary_line (Passed frames) = pass_line frames
 summary_line (Failed witness) = fail_line witness
 summary_line Frames = frames_line
@@ -84,7 +80,6 @@ abbrev pub line_of : Outcome → List ℕ
 line_of WordsRefused = codes "words: not understood"
 line_of ReadFault = codes "cannot read"
 line_of (Refused refusal) = refusal_line refusal
-line_of NotYet = unjudged_line
 line_of (Pass frames) = pass_line frames
 line_of (Fail witness) = witness_text witness
 line_of TooManyFrames = frames_line
@@ -107,7 +102,6 @@ abbrev pub status_of : Outcome → Status
 status_of WordsRefused = status.Words
 status_of ReadFault = status.ReadFault
 status_of (Refused refusal) = status.Page
-status_of NotYet = status.Page
 status_of (Pass frames) = status.Pass
 status_of (Fail witness) = status.Bad
 status_of TooManyFrames = status.Undecided
@@ -140,7 +134,6 @@ abbrev pub HasOwnText : Outcome → Type 0
 HasOwnText WordsRefused = ⊥
 HasOwnText ReadFault = ⊥
 HasOwnText (Refused refusal) = HasOwnLine refusal
-HasOwnText NotYet = ⊥
 HasOwnText (Pass frames) = Unit {0}
 HasOwnText (Fail witness) = Unit {0}
 HasOwnText TooManyFrames = ⊥

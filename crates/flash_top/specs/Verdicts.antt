@@ -12,14 +12,14 @@ use Rattle.flash_laws.specs.SureLaws.{IsOf}
 use Rattle.frame_state.specs.Scenes.{is_cubic}
 use Rattle.frame_state.specs.States.{AreOwn}
 use Rattle.paint_blend.specs.Paint.{AreStates}
-use Rattle.page_judge.specs.Judgement.{IsEnclosed, IsFail, IsPass, IsPastFrames, IsPastWork, can_be_judged}
+use Rattle.page_judge.specs.Judgement.{IsEnclosed, IsFail, IsPass, IsPastFrames, IsPastWork}
 use Rattle.witness_laws.specs.Acceptance.{IsAccepted}
 use Rattle.witness_checks.specs.Faults.{IsFirstFault}
 use Rattle.witness_text.specs.WitnessForm.{IsTextOf}
 use Rattle.flash_top.specs.Refusals.{IsLoadedAs, IsRefusal}
 use Rattle.flash_words.specs.Words.{Spot}
 use Rattle.flash_top.specs.declared.outcome.Outcome.{Outcome}
-use Rattle.flash_top.specs.declared.outcome.Outcome.TheVariants.{WordsRefused, ReadFault, Refused, NotYet, Pass, Fail, TooManyFrames, TooMuchWork, Enclosed, NoWitness, Unaccepted, Accepted, Painted, Lit, Shown, NoMemory}
+use Rattle.flash_top.specs.declared.outcome.Outcome.TheVariants.{WordsRefused, ReadFault, Refused, Pass, Fail, TooManyFrames, TooMuchWork, Enclosed, NoWitness, Unaccepted, Accepted, Painted, Lit, Shown, NoMemory}
 
 -- the bytes are a page, and of its scene something holds
 pub record IsPageOf (bytes : List ℕ) (Holds : Scene → Type 0) : Type 0 where
@@ -33,7 +33,6 @@ abbrev pub IsVerdict : Viewing → List ℕ → Outcome → Type 0
 IsVerdict setup bytes WordsRefused = ⊥
 IsVerdict setup bytes ReadFault = ⊥
 IsVerdict setup bytes (Refused refusal) = IsRefusal bytes refusal
-IsVerdict setup bytes NotYet = IsPageOf bytes (λ scene. can_be_judged scene ≡ false)
 IsVerdict setup bytes (Pass frames) = IsPageOf bytes (λ scene. IsPass scene setup frames)
 IsVerdict setup bytes (Fail witness) = IsPageOf bytes (λ scene. IsFail scene setup witness)
 IsVerdict setup bytes TooManyFrames = IsPageOf bytes (λ scene. IsPastFrames scene setup)
@@ -78,7 +77,6 @@ abbrev pub IsVerified : Viewing → List ℕ → List ℕ → Outcome → Type 0
 IsVerified setup bytes text WordsRefused = ⊥
 IsVerified setup bytes text ReadFault = ⊥
 IsVerified setup bytes text (Refused refusal) = IsRefusal bytes refusal
-IsVerified setup bytes text NotYet = ⊥
 IsVerified setup bytes text (Pass frames) = ⊥
 IsVerified setup bytes text (Fail witness) = ⊥
 IsVerified setup bytes text TooManyFrames = ⊥
@@ -107,7 +105,6 @@ abbrev pub IsTinted : Viewing → Spot → List ℕ → Outcome → Type 0
 IsTinted setup spot bytes WordsRefused = ⊥
 IsTinted setup spot bytes ReadFault = ⊥
 IsTinted setup spot bytes (Refused refusal) = IsRefusal bytes refusal
-IsTinted setup spot bytes NotYet = ⊥
 IsTinted setup spot bytes (Pass frames) = ⊥
 IsTinted setup spot bytes (Fail witness) = ⊥
 IsTinted setup spot bytes TooManyFrames = ⊥

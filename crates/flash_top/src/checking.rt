@@ -41,7 +41,6 @@ fn told(judgement: Judgement) -> Outcome
     ensures { result ≡ told judgement }
 {
     match judgement {
-        Judgement::NotYet => Outcome::NotYet,
         Judgement::Pass { frames } => Outcome::Pass { frames },
         Judgement::Fail(witness) => Outcome::Fail(witness),
         Judgement::Frames => Outcome::TooManyFrames,

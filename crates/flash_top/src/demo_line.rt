@@ -24,7 +24,6 @@ fn summary_line(alloc: Global, judgement: &Judgement) -> Result<String, NoMemory
     ensures { IfOk result (λ text. string_bytes text ≡ summary_line judgement.now) }
 {
     match judgement {
-        Judgement::NotYet => Ok(String::from_str(alloc, "page: not yet")?),
         Judgement::Pass { frames } => Ok(format!(in alloc; "pass: frames {frames}")?),
         Judgement::Fail(witness) => fail_line(alloc, witness),
         Judgement::Frames => Ok(String::from_str(alloc, "undecided: more than 100000 frames")?),

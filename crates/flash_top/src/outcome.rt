@@ -26,8 +26,6 @@ pub enum Outcome {
     ReadFault,
     /// The page is refused.
     Refused(PageRefusal),
-    /// The page is none that can be judged yet.
-    NotYet,
     /// No window is bad, from the first frame on for ever; so many windows were looked at.
     Pass { frames: u32 },
     /// A window is bad.

@@ -2,13 +2,13 @@
 ghost use Rattle.std.specs.Prelude.{◌≡◌, ◌≤◌, length};
 ghost use Rattle.page_gen.specs.GeneratedPage.{generated_page};
 ghost use Rattle.page_model.specs.ValidScene.{IsValid};
-ghost use Rattle.flash_top.specs.Demos.{IsDemo, shown_as};
+ghost use Rattle.flash_top.specs.Demos.{IsDemo};
 ghost use Rattle.flash_top.specs.Refusals.{IsLoadedAs, page_limit};
 
 use crate::opening::scene_of;
 use crate::outcome::Outcome;
 use page_gen::page_text;
-use page_judge::{Judgement, judge};
+use page_judge::judge;
 use page_model::{NoMemory, Scene, Setup};
 use std::alloc::Global;
 
@@ -43,17 +43,7 @@ fn judged(alloc: Global, number: u32, scene: Scene, setup: Setup) -> Outcome
     ensures { IsDemo setup number result }
 {
     match judge(alloc, scene, setup) {
-        Ok(judgement) => shown_as(number, judgement),
+        Ok(judgement) => Outcome::Shown { number, judgement },
         Err(NoMemory) => Outcome::NoMemory,
-    }
-}
-
-/// A judgement of the page of a number, as it is told.
-fn shown_as(number: u32, judgement: Judgement) -> Outcome
-    ensures { result ≡ shown_as number judgement }
-{
-    match judgement {
-        Judgement::NotYet => Outcome::NotYet,
-        _ => Outcome::Shown { number, judgement },
     }
 }

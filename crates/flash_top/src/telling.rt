@@ -22,7 +22,7 @@ pub(crate) fn status(outcome: &Outcome) -> Status
     match outcome {
         Outcome::WordsRefused => Status::Words,
         Outcome::ReadFault => Status::ReadFault,
-        Outcome::Refused(_) | Outcome::NotYet => Status::Page,
+        Outcome::Refused(_) => Status::Page,
         Outcome::Pass { .. } | Outcome::Accepted { .. } | Outcome::Painted(_) => Status::Pass,
         Outcome::Lit(_) | Outcome::Shown { .. } => Status::Pass,
         Outcome::Fail(_) | Outcome::NoWitness | Outcome::Unaccepted(_) => Status::Bad,
@@ -113,7 +113,6 @@ pub(crate) fn fixed_text(outcome: &Outcome) -> Option<&'static [u8]>
         Outcome::WordsRefused => Some(b"words: not understood\n".as_slice()),
         Outcome::ReadFault => Some(b"cannot read\n".as_slice()),
         Outcome::Refused(refusal) => fixed_line(refusal),
-        Outcome::NotYet => Some(b"page: not yet\n".as_slice()),
         Outcome::TooManyFrames => Some(b"undecided: more than 100000 frames\n".as_slice()),
         Outcome::NoWitness => Some(b"refused: not a witness\n".as_slice()),
         Outcome::Pass { .. }
