@@ -96,11 +96,11 @@ pub const TINTS: [Row; 13] = [
         text: "#808080\n",
     },
     Row {
-        shows: "moving_boxes_are_not_judged",
+        shows: "moving_boxes_are_painted",
         page: Page::Styled(MOVING, ONE_BOX),
         words: "tint p 1024x768 60 0 10 10",
-        status: Status::Page,
-        text: "page: not yet\n",
+        status: Status::Pass,
+        text: "#000000\n",
     },
     Row {
         shows: "column_outside",

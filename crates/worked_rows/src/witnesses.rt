@@ -208,23 +208,13 @@ fn first_condition_that_fails(rt: HostRuntime) -> Result<(), Fail> {
 }
 
 /// Pages with a file of a witness that isn't there: the witness is opened only where the page is judged.
-pub const MISSING: [Run; 3] = [
+pub const MISSING: [Run; 2] = [
     Run {
         shows: "no_page",
         page: Page::Whole(b"<!DOCTYPE html><html><head></head><body><p></p></body></html>"),
         words: AT_60,
         status: Status::Page,
         text: "page: bad text at 40\n",
-    },
-    Run {
-        shows: "page_that_is_not_judged",
-        page: Page::Styled(
-            "body{background-color:#000000;animation:f 1s infinite}@keyframes f{to{background-color:#ffffff}}",
-            "",
-        ),
-        words: AT_60,
-        status: Status::Page,
-        text: "page: not yet\n",
     },
     Run {
         shows: "page_that_is_judged",
