@@ -21,6 +21,8 @@ mod judgements;
 #[cfg(test)]
 mod light;
 #[cfg(test)]
+mod moves;
+#[cfg(test)]
 mod opening;
 #[cfg(test)]
 mod texts;

@@ -5,6 +5,7 @@ use Rattle.std.proofs.lemmas.Bool.{cases_lt}
 use Rattle.std.proofs.lemmas.Int.{ints}
 use Rattle.std.proofs.lemmas.List.Elements.{Contains-get_or}
 use Rattle.std.proofs.Math.Nat.{mul-le-mul_left, mul-div-le}
+use Rattle.page_model.specs.declared.easing.Easing.TheVariants.{Linear}
 use Rattle.page_model.specs.declared.property.Prop.{Prop}
 use Rattle.page_model.specs.declared.property.Prop.TheVariants.{Left, Top, Width, Height}
 use Rattle.page_model.specs.declared.scene.Layer.{Layer}
@@ -12,12 +13,13 @@ use Rattle.page_model.specs.declared.scene.Scene.{Scene}
 use Rattle.page_model.specs.declared.setup.Setup.{Setup}
 use Rattle.page_model.specs.Cells.{AreCuts, AreEdges, CutsAt, IsCutBy, IsEdge, IsLooseRunBelow, IsPossible, cells_between, end_of, first, end, inside, height_of, left_of, top_of, width_of}
 use Rattle.page_model.specs.Enclosure.{IsLooseOn, IsLooseStateAt, Loose, LooseRun, LooseState, own, surely_not}
-use Rattle.page_model.specs.LayerAt.{Course, course_of, length_of}
+use Rattle.page_model.specs.Fraction.{zero_of_one}
+use Rattle.page_model.specs.LayerAt.{Course, course_of, length_of, moving, still}
 use Rattle.page_model.specs.Slot.{Slot, extent, position}
 use Rattle.page_model.specs.TintOf.{covers_surely, spans_surely}
 use Rattle.page_model.specs.ValidScene.{IsValid}
+use Rattle.curve_laws.proofs.SlotLemmas.{loose_slots_nest}
 use Rattle.tint_laws.proofs.CourseLemmas.{IsGoodCourse, good_course_of}
-use Rattle.tint_laws.proofs.KindLemmas.{loose-order}
 use Rattle.tint_laws.proofs.WindowLemmas.{layer-at}
 use Rattle.region_split.specs.Cutting.{AreSoundBoth, CoversAlike, IsInside, bands, cell_of}
 use Rattle.region_split.specs.Sound.{AreSound}
@@ -146,12 +148,19 @@ rows-together xs ys i column row other_column other_row sound rows known one oth
       high_other = omega (arith, other.above, rises);
     }
 
+-- the ends of a loose value on a course are in order
+loose-order : (slot : Slot) (course : Course) (loose : Loose) → IsGoodCourse course → IsLooseOn own slot length_of course loose
+    → loose.lo ≤ℤ loose.hi
+loose-order slot (still x) loose good so = loose_slots_nest.in_order own slot Linear tt zero_of_one (length_of x) (length_of x) loose so
+loose-order slot (moving interval) loose good so =
+    loose_slots_nest.in_order own slot interval.easing good interval.distance (length_of interval.from) (length_of interval.to) loose so
+
 -- the ends of a box's place and size are in order
 box-order : (slot other : Slot) (from size : Course) (begin extent : Loose) → IsGoodCourse from → IsGoodCourse size
     → IsLooseOn own slot length_of from begin → IsLooseOn own other length_of size extent → AreInOrder begin extent
 box-order slot other from size begin extent good fine is so =
-    let one = loose-order slot length_of from begin good is in
-    let more = loose-order other length_of size extent fine so in
+    let one = loose-order slot from begin good is in
+    let more = loose-order other size extent fine so in
     record { begins = one; ends = omega (arith, ints, one, more) }
 
 -- a layer of a run covers both pixels alike

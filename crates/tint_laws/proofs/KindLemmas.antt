@@ -1,7 +1,7 @@
 -- Proofs that the kinds of bad windows of a scene nest.
 use Rattle.std.proofs.Common.{ℕ, arith}
 use Rattle.std.proofs.lemmas.Int.{ints}
-use Rattle.std.specs.Prelude.{ℤ, ◌≤ℤ◌, Option, Some, None}
+use Rattle.std.specs.Prelude.{ℤ, Option, Some, None}
 use Rattle.page_model.specs.declared.setup.Setup.{Setup}
 use Rattle.page_model.specs.declared.colour.Rgba.{Rgba}
 use Rattle.page_model.specs.declared.easing.Easing.TheVariants.{Linear}
@@ -27,23 +27,16 @@ use Rattle.curve_laws.proofs.SlotLemmas.{loose_slots_nest, loose_shown_nests}
 use Rattle.tint_laws.proofs.TintNestLemmas.{tints_hold_tints}
 use Rattle.tint_laws.proofs.WindowLemmas.{layer-at, loose-most}
 
--- the ends of a loose value of the own kind on a course are in order
-pub loose-order : (slot : Slot) (part : Value → ℤ) (course : Course) (loose : Loose) → IsGoodCourse course
-    → IsLooseOn own slot part course loose → loose.lo ≤ℤ loose.hi
-loose-order slot part (still x) loose good so = loose_slots_nest.in_order own slot Linear tt zero_of_one (part x) (part x) loose so
-loose-order slot part (moving interval) loose good so =
-    loose_slots_nest.in_order own slot interval.easing good interval.distance (part interval.from) (part interval.to) loose so
-
--- a loose value of the own kind lies in that of the wide kind
+-- a loose value on a course
 loose-in : (slot : Slot) (part : Value → ℤ) (course : Course) (outer inner : Loose) → IsGoodCourse course
     → IsLooseOn wide slot part course outer → IsLooseOn own slot part course inner → LooseIn outer inner
 loose-in slot part (still x) outer inner good first second = record {
   within = loose_slots_nest.own_in_wide slot Linear tt zero_of_one (part x) (part x) outer inner first second;
-  order = loose-order slot part (still x) inner good second;
+  order = loose_slots_nest.in_order own slot Linear tt zero_of_one (part x) (part x) inner second;
 }
 loose-in slot part (moving interval) outer inner good first second = record {
   within = loose_slots_nest.own_in_wide slot interval.easing good interval.distance (part interval.from) (part interval.to) outer inner first second;
-  order = loose-order slot part (moving interval) inner good second;
+  order = loose_slots_nest.in_order own slot interval.easing good interval.distance (part interval.from) (part interval.to) inner second;
 }
 
 -- a loose channel
