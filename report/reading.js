@@ -56,7 +56,6 @@ const TEXTS = [
   [/^page: element (\d+) is not placed$/, 'placed', ['element']],
   [/^page: body has a property that it may not have$/, 'body', []],
   [/^page: more than 8 animations on element (\d+)$/, 'animations', ['element']],
-  [/^page: not yet$/, 'later', []],
 ];
 
 // The answer, by the text that the program printed.
@@ -74,7 +73,7 @@ function readAnswer() {
 }
 
 // Whether the page was accepted: only then is it painted here.
-const isAccepted = (answer) => ['pass', 'fail', 'frames', 'work', 'enclosure', 'later'].includes(answer.kind);
+const isAccepted = (answer) => ['pass', 'fail', 'frames', 'work', 'enclosure'].includes(answer.kind);
 
 // The seconds at which a frame is shown.
 const secondsOf = (words, frame) => frame * words.per / words.frames;

@@ -145,7 +145,6 @@ const REFUSALS = {
     'Give the body a background colour and animations of it, and nothing else.'],
   animations: ['An element has a list of more than eight animation names; its tag is marked below.',
     'Use eight or fewer.'],
-  later: ['The page is one of those that are not judged yet.', 'See README: what is judged today.'],
   other: ['The program printed something that this report does not know.',
     'Is the report’s template of another version?'],
 };
