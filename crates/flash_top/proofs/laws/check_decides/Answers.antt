@@ -6,4 +6,4 @@ use Rattle.flash_top.proofs.laws.check_decides.Goals as goal
 pub returns : goal.returns
 returns c =
     check-decides (map string_bytes c.args.words.now)
-    (λ one other first second. one-read c.command.result one other (c.command.ensures.spelled one first) (c.command.ensures.spelled other second))
+    (λ one other first second. one-read c.command-command.result one other (c.command-command.ensures.spelled one first) (c.command-command.ensures.spelled other second))
