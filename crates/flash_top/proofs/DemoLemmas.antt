@@ -8,6 +8,7 @@ use Rattle.page_judge.specs.declared.types.Judgement.TheVariants.{Pass as Passed
 use Rattle.page_model.specs.Viewing.{Viewing}
 use Rattle.page_model.specs.declared.scene.Scene.{Scene}
 use Rattle.flash_top.proofs.AnswerLemmas.{HasCause, causes_agree}
+use Rattle.flash_top.proofs.VerdictLemmas.{judged_page, judged_verdict}
 use Rattle.flash_top.specs.Demos.{IsDemo, IsShown}
 use Rattle.flash_top.specs.Refusals.{IsLoadedAs, IsRefusal}
 use Rattle.flash_top.specs.SameAnswers.{AreEqual, AreToldAlike, OneDemo}
@@ -25,7 +26,7 @@ unloaded_demo setup number bytes outcome made (inr is) =
 pub judged_demo : (setup : Viewing) (number : ℕ) (scene : Scene) (judgement : Judgement) → IsLoadedAs (generated_page number) scene
     → IsJudgement scene setup judgement → IsDemo setup number (Shown number judgement)
 judged_demo setup number scene judgement loaded is =
-    record { number_is = refl; verdict = record { scene = scene; loaded = loaded; holds = is } }
+    record { number_is = refl; verdict = judged_verdict setup (generated_page number) scene judgement loaded is }
 
 -- ---- one text
 
@@ -48,7 +49,7 @@ record TellsSum (setup : Viewing) (number : ℕ) (scene : Scene) (outcome : Outc
 sum_cause : (setup : Viewing) (number shown : ℕ) (judgement : Judgement) → IsShown setup number shown judgement
     → HasCause (generated_page number) (TellsSum setup number) (Shown shown judgement)
 sum_cause setup number shown judgement h =
-    let is = h.verdict in
+    let is = judged_page setup (generated_page number) judgement h.verdict in
     inr (inr (record { scene = is.scene; loaded = is.loaded; tells = record { judgement = judgement; judged = is.holds; told_is = rw h.number_is refl } }))
 
 demo_cause : (setup : Viewing) (number : ℕ) (outcome : Outcome) → IsDemo setup number outcome → HasCause (generated_page number) (TellsSum setup number) outcome

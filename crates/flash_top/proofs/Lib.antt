@@ -10,4 +10,5 @@ pub mod RefusalLemmas
 pub mod SoundLemmas
 pub mod ToldLemmas
 pub mod VerdictLemmas
+pub mod WantLemmas
 pub mod VersionLemmas

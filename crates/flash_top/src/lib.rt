@@ -6,11 +6,13 @@
 //! The tint of a pixel holds its exact colour in the frame, and is that colour where no easing is a curve.
 //!
 //! The way of a run: `flash_words` finds the command, `obeying` hands it on, `opening` reads and loads what its words name,
-//! `checking` has the scene judged, `verifying` has a witness of it tested, `tinting` paints a pixel, `lighting` tells how light a
-//! colour is, `showing` has a page that is made from a number judged, and `telling` makes the text and writes it. `Verdicts` in `specs/` is the table of causes: it speaks of scenes, judgements and witnesses, and the
-//! crates below say what these are. A page is refused for one cause ([`one_refusal`]), the answers exclude each other
-//! ([`one_answer`]), and what `check` tells of a page that fails is accepted by `verify` ([`told_witness_is_accepted`]). A page that
-//! stands clear of the thresholds is passed or failed ([`clear_pages_are_decided`], [`check_decides`]).
+//! `checking` has the scene judged, `verifying` has a witness of it tested, `tinting` paints a pixel, `lighting` tells how light
+//! a colour is, `showing` has a page judged that is made from a number, and `telling` makes the text and writes it. `Verdicts` in
+//! `specs/` is the table of causes: it speaks of scenes, judgements and witnesses, and the crates below say what these are;
+//! `Lighting` and `Demos` have those of the commands that name no file. A page is refused for one cause ([`one_refusal`]), the
+//! answers exclude each other ([`one_answer`]), and what `check` tells of a page that fails is accepted by `verify`
+//! ([`told_witness_is_accepted`]). A page that stands clear of the thresholds is passed or failed
+//! ([`clear_pages_are_decided`], [`check_decides`]).
 //!
 //! Over a source that tells its bytes the clause speaks of those bytes; over files of the system it keeps its
 //! causes, of whatever bytes were read, and says nothing of what a file holds. It doesn't say that memory is there, nor that

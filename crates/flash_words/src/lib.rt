@@ -5,7 +5,7 @@
 //!
 //! `Words` in `specs/` is the table of the commands as a relation, with the places of the words that name files. What a command comes
 //! to is the top's to say: nothing is opened here, and any word may be the name of a file. Numbers are read as they are written, with
-//! no sign and no leading zero, by `numerals`.
+//! no sign and no leading zero, by `numerals`; a colour is six hexadecimal digits, as `Colours` in `specs/` has them, read by `colours`.
 #![tactic(auto)]
 
 mod colours;
