@@ -9,4 +9,4 @@ tell_own-requires-clause-told g c = outcome_told _ _ _ _ _ c.outcome_of-outcome.
 pub returns : goal.returns
 returns g c =
     let told = c.tell_own.ensures in
-    (told.0, told_outcome _ _ _ _ _ told.0 c.outcome_of-outcome.ensures c.in-None.ensures told.1.0, told.1.1)
+    (told.0, told_outcome _ _ _ _ _ told.0 c.outcome_of-outcome.ensures c.in-None.ensures told.1, told.2)
