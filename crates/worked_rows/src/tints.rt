@@ -14,6 +14,14 @@ const STEPS: &str =
 const MOVING: &str =
     ".b{position:absolute;background-color:#000000;left:10px;top:10px;width:20px;height:20px;animation:m 2s linear infinite alternate}@keyframes m{to{left:11px}}";
 
+/// A body that is eased to white, by the curve that is meant where none is named.
+const EASED: &str =
+    "body{background-color:#000000;animation:f 1s infinite}@keyframes f{to{background-color:#ffffff}}";
+
+/// A body that is eased to black, half way of which it is half a channel from two colours.
+const DARKENED: &str =
+    "body{background-color:#ffffff;animation:f 1s ease-in-out infinite}@keyframes f{to{background-color:#000000}}";
+
 /// A body whose animation has no duration, and so is over at once.
 const AT_ONCE: &str =
     "body{background-color:#000000;animation:f 0s steps(1) infinite forwards}@keyframes f{0%{background-color:#000000}50%{background-color:#ffffff}}";
@@ -24,7 +32,7 @@ const FADE: &str =
 
 const ONE_BOX: &str = "<div class=\"b\"></div>";
 
-pub const TINTS: [Row; 13] = [
+pub const TINTS: [Row; 15] = [
     Row {
         shows: "half_a_column_is_covered",
         page: Page::Styled(HALF, ONE_BOX),
@@ -101,6 +109,20 @@ pub const TINTS: [Row; 13] = [
         words: "tint p 1024x768 60 0 10 10",
         status: Status::Pass,
         text: "#000000\n",
+    },
+    Row {
+        shows: "half_way_of_a_curve",
+        page: Page::Styled(EASED, ""),
+        words: "tint p 1024x768 60 30 0 0",
+        status: Status::Pass,
+        text: "#cdcdcd\n",
+    },
+    Row {
+        shows: "curve_between_two_colours",
+        page: Page::Styled(DARKENED, ""),
+        words: "tint p 1024x768 60 30 0 0",
+        status: Status::Pass,
+        text: "#7f7f7f-#808080\n",
     },
     Row {
         shows: "column_outside",
