@@ -11,7 +11,7 @@ use Rattle.page_model.specs.declared.scene.Scene.{Scene}
 use Rattle.page_model.specs.Colour.{blended, body_colour, combined, covers, ground, over, paint_box, painted, spans}
 use Rattle.page_model.specs.Enclosure.{LooseState, one_value}
 use Rattle.page_model.specs.LayerAt.{State}
-use Rattle.page_model.specs.TintOf.{Span, blended_span, both, full_alpha, painted_where, single, span_of, spans_surely, tint_box, tint_ground, tint_of, tint_over}
+use Rattle.page_model.specs.TintOf.{Span, blended_span, both, painted_where, single, span_of, spans_surely, tint_box, tint_ground, tint_of, tint_over}
 use Rattle.page_model.specs.Red.{white}
 use Rattle.page_model.specs.ValidScene.{IsValid}
 use Rattle.frame_state.specs.States.{known, sure_of}

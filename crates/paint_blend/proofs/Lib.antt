@@ -1,5 +1,5 @@
 mod ExactLemmas
 mod HeldLemmas
-pub mod OrderLemmas
+mod OrderLemmas
 mod ReadyLemmas
 mod SpanLemmas

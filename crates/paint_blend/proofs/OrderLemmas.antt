@@ -6,7 +6,7 @@ use Rattle.page_model.specs.declared.scene.Scene.{Scene}
 use Rattle.page_model.specs.Colour.{blended, body_colour}
 use Rattle.page_model.specs.Enclosure.{LooseState, Sureness, surely, surely_not, maybe}
 use Rattle.page_model.specs.Red.{white}
-use Rattle.page_model.specs.TintOf.{Span, blended_at, blended_span, blue_span, both, covers_surely, full_alpha, green_span, hull, painted_where, red_span, single, span_of, tint_box, tint_ground, tint_hull, tint_of, tint_over}
+use Rattle.page_model.specs.TintOf.{Span, blended_at, blended_span, blue_span, both, covers_surely, full_alpha, green_span, hull, painted_where, red_span, single, span_of, tint_box, tint_ground, tint_of, tint_over}
 use Rattle.paint_blend.specs.Paint.{IsOrdered}
 
 abbrev IsInOrder : Span → Type 0

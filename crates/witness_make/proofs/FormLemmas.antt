@@ -1,5 +1,5 @@
 -- What is made is in form: its numbers fit their types, and each of its tints has its ends in order.
-use Rattle.std.proofs.Common.{◌≡◌, ◌∙◌, ℕ, ◌+◌, ◌<◌, ◌≤◌, FitsSigned, length, get_or, ap, arith, inl, inr, subst, sym}
+use Rattle.std.proofs.Common.{◌≡◌, ℕ, ◌<◌, ◌≤◌, FitsSigned, length, get_or, arith, inl, inr, subst, sym}
 use Rattle.std.specs.Prelude.{All, ℤ, pos, negsuc, ◌≤ℤ◌, sum_by}
 use Rattle.std.specs.Int.{w32}
 use Rattle.std.proofs.lemmas.Int.{ints}

@@ -1,6 +1,5 @@
 -- All pixels of a cell have one tint in each frame of a window, and so flash alike.
 use Rattle.std.proofs.Common.{◌≡◌, ◌∙◌, ℕ, ◌+◌, ◌<◌, ◌≤◌, List, length, get_or, Some, ap, arith, inl, inr, subst}
-use Rattle.std.specs.Prelude.{false}
 use Rattle.std.proofs.lemmas.Option.{slice_get-get_or}
 use Rattle.page_model.specs.declared.colour.Tint.{Tint}
 use Rattle.page_model.specs.declared.scene.Scene.{Scene}
@@ -18,7 +17,7 @@ use Rattle.flash_count.proofs.SeenLemmas.{IsSeen, has_chain-seen}
 use Rattle.flash_laws.specs.FlagLaws.{CarriesOver}
 use Rattle.flash_laws.proofs.ChainLemmas.{has_chain-carried}
 use Rattle.frame_state.specs.States.{AreOwn}
-use Rattle.region_split.specs.Cutting.{Edges, IsCut, IsInside, cell_of}
+use Rattle.region_split.specs.Cutting.{Edges, IsInside, cell_of}
 use Rattle.wide_laws.proofs.LooseLemmas.{loose_run-met}
 use Rattle.cell_tints.specs.Tints.{IsOwnTint}
 use Rattle.cell_flags.proofs.FlagLemmas.{corner-inside, own-alike}

@@ -4,7 +4,6 @@ use Rattle.page_model.specs.declared.colour.Tint.{Tint}
 use Rattle.page_model.specs.Colour.{painted}
 use Rattle.page_model.specs.TintOf.{tint_of}
 use Rattle.flash_laws.specs.SureLaws.{IsOf}
-use Rattle.frame_state.specs.States.{states_as}
 use Rattle.tint_laws.specs.NestLaws.{LiesIn}
 use Rattle.paint_blend.proofs.HeldLemmas.{colour-held, own-same, tint-within}
 use Rattle.paint_blend.proofs.ReadyLemmas.{exact-known}

@@ -1,5 +1,5 @@
 -- The parts make a witness, and their pixels can be counted.
-use Rattle.std.proofs.Common.{◌≡◌, ◌∙◌, ◌^◌, ◌<◌, ◌≤◌, FitsSigned, List, ap, rules, subst, sym}
+use Rattle.std.proofs.Common.{◌≡◌, ◌∙◌, ◌^◌, ◌<◌, FitsSigned, List, ap, rules, subst, sym}
 use Rattle.std.specs.Prelude.{sum_by}
 use Rattle.std.specs.Int.{w32}
 use Rattle.page_model.specs.declared.witness.Part.{Part}
