@@ -27,10 +27,10 @@ wanting words files before after outcome (inr obeyed) own =
     elim obeyed.answered [
       | inl unread ↦ absurd (subst HasOwnText unread.told own)
       | inr comes ↦ inr (record {
-          command = obeyed.command;
-          spelled = obeyed.spelled;
-          answered = inr (comes_wanting words files obeyed.command outcome comes);
-        })
+        command = obeyed.command;
+        spelled = obeyed.spelled;
+        answered = inr (comes_wanting words files obeyed.command outcome comes);
+      })
     ]
 
 pub told_outcome : (words : List (List ℕ)) (files : Option Files) (before after : ℕ) (outcome told : Outcome)
