@@ -1,0 +1,9 @@
+use Rattle.std.proofs.Common.{◌≡◌, ◌++◌, replicate}
+use Rattle.std.specs.Prelude.{vec_capacity}
+use Rattle.row_pool.proofs.numbers.add_zeros.Given as goal
+
+abbrev pub invariant-loop : goal.invariant-loop
+invariant-loop l = record {
+  items : l.words.items ≡ l.fn.words.items ++ replicate l.counter 0;
+  capacity : vec_capacity l.words ≡ vec_capacity l.fn.words;
+}

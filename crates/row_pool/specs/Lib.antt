@@ -1,0 +1,4 @@
+pub mod Rows
+pub mod Pools
+pub mod Kept
+pub mod Lending
