@@ -1,5 +1,5 @@
 -- Windows of a page repeat behind the settled frame, so those before the needed frames are enough.
-use Rattle.std.proofs.Common.{ℕ, ◌+◌, ◌<◌, ◌≤◌, subst, sym}
+use Rattle.std.proofs.Common.{ℕ, ◌+◌, ◌≤◌, subst, sym}
 use Rattle.std.specs.Prelude.{ℤ, ◌↔◌}
 use Rattle.page_model.specs.declared.scene.Scene.{Scene}
 use Rattle.page_model.specs.declared.setup.Setup.{Setup}

@@ -1,5 +1,5 @@
 -- A layer's course depends on the progress of its animations alone, so behind the settled frame its state repeats.
-use Rattle.std.proofs.Common.{◌≡◌, ℕ, zero, suc, ◌+◌, ◌<◌, ◌≤◌, List, [], ◌∷◌, ◌++◌, length, refl, ap, subst, sym}
+use Rattle.std.proofs.Common.{◌≡◌, ℕ, zero, suc, ◌+◌, ◌≤◌, List, [], ◌∷◌, ◌++◌, length, refl, ap, subst, sym}
 use Rattle.std.specs.Prelude.{◌↔◌, pos, Option, Some, All, filter_map, slice_get, slice_index_or, option_and_then, if◌then◌else◌}
 use Rattle.std.proofs.lemmas.List.Elements.{All-head, All-tail, All-take, All-drop}
 use Rattle.std.proofs.Math.Seq.{take-append_seam, drop-append_seam}
@@ -19,7 +19,7 @@ use Rattle.page_model.specs.Progress.{progress_of}
 use Rattle.page_model.specs.Slot.{alpha, cover, extent, position}
 use Rattle.page_model.specs.Time.{HasFrames}
 use Rattle.horizon_laws.proofs.RepeatLemmas.{repeats-together}
-use Rattle.horizon_laws.specs.ForeverLaws.{StatesRepeat}
+use Rattle.horizon_laws.specs.ForeverLaws.{LayerRepeats, StatesRepeat}
 
 -- two parts of a list
 front : (P : Anim → Type 0) (xs ys : List Anim) → All P (xs ++ ys) → All P xs
@@ -129,5 +129,15 @@ loose_state-repeats kind scene setup settled period frame number layer state rat
       loose_state-carries kind scene setup frame (frame + period) layer state (λ prop. sym (same prop)),
     )
 
+-- so does one layer behind the settled frame of its own animations
+pub layer-repeats :
+    (scene : Scene) (setup : Setup) (settled period : ℕ) (layer : Layer) → HasFrames setup → IsHorizon setup layer.anims settled period
+    → LayerRepeats scene setup layer settled period
+layer-repeats scene setup settled period layer rate horizon kind frame state later =
+    let same = λ (prop : Prop). course-same scene setup (frame + period) frame layer prop (repeats-together setup layer.anims settled period frame rate horizon later) in (
+      loose_state-carries kind scene setup (frame + period) frame layer state same,
+      loose_state-carries kind scene setup frame (frame + period) layer state (λ prop. sym (same prop)),
+    )
+
 pub states-repeat : StatesRepeat
-states-repeat = record { exactly = state-repeats; loosely = loose_state-repeats }
+states-repeat = record { exactly = state-repeats; loosely = loose_state-repeats; alone = layer-repeats }

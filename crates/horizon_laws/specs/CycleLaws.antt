@@ -1,5 +1,5 @@
 -- What settled frames and periods are for: behind the settled frame each animation's progress is the same one period later.
-use Rattle.std.specs.Prelude.{ℕ, pos, true, false, ◌≡◌, ◌+◌, ◌%◌, ◌<◌, ◌≤◌, List, All}
+use Rattle.std.specs.Prelude.{ℕ, pos, true, false, ◌≡◌, ◌+◌, ◌%◌, ◌≤◌, List, All}
 use Rattle.page_model.specs.declared.setup.Setup.{Setup}
 use Rattle.page_model.specs.declared.animation.Anim.{Anim}
 use Rattle.page_model.specs.declared.animation.Count.TheVariants.{Infinite}

@@ -12,7 +12,13 @@ use Rattle.page_model.specs.LayerAt.{State, IsStateAt}
 use Rattle.page_model.specs.Window.{IsPossiblyBad, IsSurelyBad}
 use Rattle.page_model.specs.Time.{HasFrames}
 
--- a layer's state one period later is its state now: the exact one, and that of each kind
+-- from a frame on, a layer's state by each kind is the same so many frames later
+abbrev pub LayerRepeats : Scene → Setup → Layer → ℕ → ℕ → Type 0
+LayerRepeats scene setup layer settled period =
+    (kind : Kind) (frame : ℕ) (state : LooseState) → settled ≤ frame
+    → (IsLooseStateAt kind scene setup (frame + period) layer state ↔ IsLooseStateAt kind scene setup frame layer state)
+
+-- a layer's state one period later is its state now: the exact one, and that of each kind; and by its own animations alone
 pub record StatesRepeat : Type 0 where
   pub exactly : (scene : Scene) (setup : Setup) (settled period frame number : ℕ) (layer : Layer) (state : State) → HasFrames setup
       → IsHorizon setup (all_animations scene) settled period → settled ≤ frame → slice_get scene.layers number ≡ Some layer
@@ -21,6 +27,8 @@ pub record StatesRepeat : Type 0 where
       → HasFrames setup → IsHorizon setup (all_animations scene) settled period → settled ≤ frame
       → slice_get scene.layers number ≡ Some layer
       → (IsLooseStateAt kind scene setup (frame + period) layer state ↔ IsLooseStateAt kind scene setup frame layer state)
+  pub alone : (scene : Scene) (setup : Setup) (settled period : ℕ) (layer : Layer) → HasFrames setup
+      → IsHorizon setup layer.anims settled period → LayerRepeats scene setup layer settled period
 
 -- so a window is bad, and by each kind surely or possibly bad, where the one that starts a period later is
 pub record IsAsBad (scene : Scene) (setup : Setup) (start other : ℕ) : Type 0 where

@@ -2,7 +2,8 @@
 ghost use Rattle.horizon_laws.specs.ForeverLaws.{StatesRepeat, BadWindowsRepeat, FewWindowsSuffice};
 
 /// Behind the settled frame of all animations each layer's state, the exact one and that of each kind of enclosure, repeats after one
-/// period. It refuses a horizon over the animations of some layers alone.
+/// period; and behind the settled frame of its own animations it repeats after their period. It refuses a horizon over the animations of
+/// another layer alone.
 pub fn states_repeat()
     ensures { StatesRepeat }
 {}

@@ -1,6 +1,6 @@
 // Settled frames and periods, as another implementation has them.
 use page_model::Setup;
-use period_frames::{Horizon, needed};
+use period_frames::{Horizon, needed, needed_of};
 use sample_pages::scene_of;
 use std::alloc::Global;
 use std::test::Fail;
@@ -45,6 +45,24 @@ fn settled_frames_and_periods(rt: HostRuntime) -> Result<(), Fail> {
     for (rate, animation, wanted) in ROWS.iter() {
         let found = repeat_at(rt.alloc(), *rate, animation)?;
         assert_eq!(rt; found, *wanted, "{animation}");
+    }
+    Ok(())
+}
+
+/// A short blink for ever, and a fade of a second.
+const TWO: &str =
+    "<div style=\"animation:f 250ms linear infinite\"></div><div style=\"animation:f 1s 1\"></div>";
+
+#[test]
+fn a_layer_by_its_own_animations(rt: HostRuntime) -> Result<(), Fail> {
+    let scene = scene_of(rt.alloc(), BOX, TWO)?;
+    let setup = Setup::new(1, 1, 60)?;
+    for (number, settled, period) in [(0u16, 0, 1), (1, 0, 15), (2, 60, 1)] {
+        if usize::from(number) >= scene.layers.len() {
+            return Err(Fail::from("no such layer"));
+        }
+        let found = needed_of(&scene, &setup, number);
+        assert_eq!(rt; found, Some(Horizon { settled, period }), "{number}");
     }
     Ok(())
 }

@@ -1,7 +1,8 @@
 -- The animations of one layer more, and what a scene needs.
 use Rattle.std.proofs.Common.{◌≡◌, ℕ, ◌+◌, ◌<◌, List, [], ◌∷◌, ◌++◌, length, take, refl, arith, ap, sym, subst, ◌∙◌, append-nil}
-use Rattle.std.specs.Prelude.{Some, None, slice_index_or}
+use Rattle.std.specs.Prelude.{Some, None, slice_get, slice_index_or}
 use Rattle.std.proofs.lemmas.Grind.{take_at_read, flat_map-append}
+use Rattle.std.proofs.lemmas.Option.{get_or_from_slice_get}
 use Rattle.page_model.specs.declared.setup.Setup.{Setup}
 use Rattle.page_model.specs.declared.animation.Anim.{Anim}
 use Rattle.page_model.specs.declared.scene.Layer.{Layer}
@@ -49,3 +50,13 @@ more-by_period setup anims rate long =
 pub enough : (scene : Scene) (setup : Setup) (settled period : ℕ) → HasFrames setup → IsHorizon setup (all_animations scene) settled period → AreEnough scene setup (settled + period)
 enough scene setup settled period rate is =
     few-suffice scene setup (settled + period) rate (record { settled = settled; period = period; horizon = is; needed_is = refl })
+
+-- what is known of the animations of a layer that was read
+pub repeat-read :
+    (setup : Setup) (layers xs : List Layer) (number place : ℕ) (element layer : Layer) (anims : List Anim) (known : Repeat)
+    → xs ≡ layers → place ≡ number → element ≡ slice_index_or xs place element → anims ≡ element.anims
+    → slice_get layers number ≡ Some layer → IsRepeat setup anims known → IsRepeat setup layer.anims known
+repeat-read setup layers xs number place element layer anims known same_list same_place read same_anims there is =
+    let found : slice_index_or layers number element ≡ layer = get_or_from_slice_get layers number layer element there in
+    let same : element ≡ layer = cc in
+    subst (λ (some : List Anim). IsRepeat setup some known) (same_anims ∙ ap (λ (l : Layer). l.anims) same) is

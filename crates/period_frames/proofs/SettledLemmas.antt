@@ -1,5 +1,5 @@
 -- An animation has settled by a frame just where the moment of the frame isn't before a time.
-use Rattle.std.proofs.Common.{◌≡◌, ℕ, ◌+◌, ◌*◌, ◌/◌, ◌%◌, ◌<◌, ◌≤◌, min, Bool, true, false, refl, arith, ap, sym, subst, ◌∙◌, inl, inr, mul-le-mul_right, le-leb, leb-true}
+use Rattle.std.proofs.Common.{◌≡◌, ℕ, ◌+◌, ◌*◌, ◌/◌, ◌%◌, ◌<◌, ◌≤◌, min, Bool, true, false, arith, sym, subst, ◌∙◌, inl, inr, mul-le-mul_right, le-leb, leb-true}
 use Rattle.std.specs.Prelude.{ℤ, pos, ◌+ℤ◌, ◌==◌, ◌&&◌, ◌||◌, not, int_le, nat_le, IsTrue, if◌then◌else◌}
 use Rattle.std.proofs.lemmas.Bool.{cases_Bool, cases_lt}
 use Rattle.std.proofs.lemmas.Bool.Decides.{nat_tests}

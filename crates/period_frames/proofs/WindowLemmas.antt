@@ -1,5 +1,5 @@
 -- A window that starts behind the needed frames is just as the one that starts a period earlier.
-use Rattle.std.proofs.Common.{◌≡◌, ℕ, ◌+◌, ◌<◌, ◌≤◌, arith, sym, subst}
+use Rattle.std.proofs.Common.{◌≡◌, ℕ, ◌+◌, ◌≤◌, arith, sym, subst}
 use Rattle.std.specs.Prelude.{◌↔◌}
 use Rattle.page_model.specs.declared.setup.Setup.{Setup}
 use Rattle.page_model.specs.declared.scene.Scene.{Scene}

@@ -1,8 +1,13 @@
 // The frames that have to be looked at.
-ghost use Rattle.std.specs.Prelude.{◌≡◌, ◌+◌, ◌≤◌, IfSome, IfNone};
+ghost use Rattle.std.specs.Prelude.{Some, ◌≡◌, ◌+◌, ◌<◌, ◌≤◌, List, length, slice_get, IfSome, IfNone};
+ghost use Rattle.page_model.specs.declared.animation.Anim.{Anim as Animation};
+ghost use Rattle.page_model.specs.declared.scene.Layer.{Layer as Element};
 ghost use Rattle.page_model.specs.Horizon.{IsHorizon, all_animations};
+ghost use Rattle.page_model.specs.Time.{HasFrames};
 ghost use Rattle.page_model.specs.ValidScene.{IsValid};
-ghost use Rattle.period_frames.specs.Needed.{AreEnough, NeedsMore};
+ghost use Rattle.page_model.specs.Viewing.{Viewing};
+ghost use Rattle.period_frames.specs.Needed.{AreEnough, LayerRepeats, NeedsMore};
+ghost use Rattle.period_frames.specs.Repeats.{IsRepeat};
 
 use crate::periods::MOST;
 use crate::repeats::Repeat;
@@ -16,6 +21,22 @@ pub struct Horizon {
     pub period: u32,
 }
 
+/// What is known of some animations as their horizon, where it is at most so many frames.
+fn horizon_of(all: Repeat) -> Option<Horizon>
+    ensures horizon { (setup : Viewing) (anims : List Animation) → IsRepeat setup anims all
+        → IfSome result (λ h. IsHorizon setup anims h.settled h.period) }
+    ensures few { IfSome result (λ h. h.settled + h.period ≤ 100000) }
+    ensures many { (setup : Viewing) (anims : List Animation) → HasFrames setup → IsRepeat setup anims all
+        → IfNone result (NeedsMore setup anims) }
+{
+    let settled = all.settled;
+    let period = all.period?;
+    if settled.saturating_add(period) > MOST {
+        return None;
+    }
+    Some(Horizon { settled, period })
+}
+
 /// The settled frame and the period of a scene's animations, `None` exactly where their sum is more than 100,000.
 pub fn needed(scene: &Scene, setup: &Setup) -> Option<Horizon>
     requires { IsValid scene.now }
@@ -27,11 +48,24 @@ pub fn needed(scene: &Scene, setup: &Setup) -> Option<Horizon>
     // Neither is 0, so each endless animation's cycle takes time, and there is a period.
     let _num = setup.num();
     let _den = setup.den();
-    let all = Repeat::of_layers(scene.layers.as_slice(), setup);
-    let settled = all.settled;
-    let period = all.period?;
-    if settled.saturating_add(period) > MOST {
-        return None;
-    }
-    Some(Horizon { settled, period })
+    horizon_of(Repeat::of_layers(scene.layers.as_slice(), setup))
+}
+
+/// The settled frame and the period of one layer's animations, `None` exactly where their sum is more than 100,000. From
+/// the settled frame on the layer does the same again after each period, whatever other layers do.
+pub fn needed_of(scene: &Scene, setup: &Setup, number: u16) -> Option<Horizon>
+    requires valid { IsValid scene.now }
+    requires there { number < length scene.now.layers }
+    ensures horizon { (l : Element) → slice_get scene.now.layers number ≡ Some l
+        → IfSome result (λ h. IsHorizon setup.now l.anims h.settled h.period) }
+    ensures few { IfSome result (λ h. h.settled + h.period ≤ 100000) }
+    ensures many { (l : Element) → slice_get scene.now.layers number ≡ Some l
+        → IfNone result (NeedsMore setup.now l.anims) }
+    ensures repeats { (l : Element) → slice_get scene.now.layers number ≡ Some l
+        → IfSome result (λ h. LayerRepeats scene.now setup.now l h.settled h.period) }
+{
+    let _num = setup.num();
+    let _den = setup.den();
+    let layer = &scene.layers.as_slice()[usize::from(number)];
+    horizon_of(Repeat::of_animations(layer.anims.as_slice(), setup))
 }

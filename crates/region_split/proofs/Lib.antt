@@ -5,6 +5,7 @@ pub mod CuttingLemmas
 pub mod EdgeLemmas
 pub mod ListLemmas
 pub mod MarkLemmas
+pub mod RepeatLemmas
 pub mod RisingLemmas
 pub mod StayLemmas
 pub mod StillLemmas

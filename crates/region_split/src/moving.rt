@@ -1,11 +1,14 @@
-// Which layers may move or grow.
-ghost use Rattle.std.specs.Prelude.{Some, ◌≡◌, ◌<◌, length, slice_get};
+// Which layers may move or grow, and until when they do something new.
+ghost use Rattle.std.specs.Prelude.{Some, ◌≡◌, ◌<◌, ◌≤◌, length, slice_get};
 ghost use Rattle.std.specs.List.{list_any};
 ghost use Rattle.page_model.specs.declared.scene.Layer.{Layer as Element};
+ghost use Rattle.page_model.specs.ValidScene.{IsValid};
+ghost use Rattle.region_split.specs.Marks.{AreEnoughFrames};
 ghost use Rattle.region_split.specs.Moving as definition;
 
 use keyframe_sets::names;
-use page_model::{Anim, KeyframeSet, Prop, Scene};
+use page_model::{Anim, KeyframeSet, Prop, Scene, Setup};
+use period_frames::needed_of;
 
 /// Whether a set names a place or a size.
 fn names_edge(set: &KeyframeSet) -> bool
@@ -42,4 +45,18 @@ pub(crate) fn may_move(scene: &Scene, number: u16) -> bool
 {
     let layer = &scene.layers.as_slice()[usize::from(number)];
     some_moves(scene.sets.as_slice(), layer.anims.as_slice())
+}
+
+/// How many of so many frames are enough for a layer: behind them it does what it does in one of them.
+pub(crate) fn frames_of(scene: &Scene, setup: &Setup, number: u16, frames: u32) -> u32
+    requires valid { IsValid scene.now }
+    requires there { number < length scene.now.layers }
+    ensures few { result ≤ frames }
+    ensures enough { (l : Element) → slice_get scene.now.layers number ≡ Some l
+        → AreEnoughFrames scene.now setup.now l frames result }
+{
+    match needed_of(scene, setup, number) {
+        Some(horizon) => frames.min(horizon.settled + horizon.period),
+        None => frames,
+    }
 }

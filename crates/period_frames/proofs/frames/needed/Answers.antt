@@ -1,31 +1,24 @@
--- There is a horizon; where its period or the sum is too much, that one tells so.
-use Rattle.std.proofs.Common.{arith, subst}
+-- What is known of all animations tells their horizon, or that there is none.
+use Rattle.std.proofs.Common.{subst}
+use Rattle.std.proofs.lemmas.Option.{IfSome_then}
 use Rattle.page_model.specs.Horizon.{all_animations, animations_of}
 use Rattle.period_frames.specs.Repeats.{IsRepeat}
-use Rattle.period_frames.proofs.NeededLemmas.{enough, horizon-known, more-by_period, more-by_sum}
+use Rattle.period_frames.proofs.NeededLemmas.{enough}
 use Rattle.period_frames.proofs.frames.needed.Goals as goal
 
-pub returns-in_err-period-clause-many : goal.returns-in_err-period-clause-many
-returns-in_err-period-clause-many c =
-    let setup = c.args.setup.now in
-    let anims = all_animations c.args.scene.now in
-    let long = rw (c.as_slice.ensures, c.in_err-period.was) at c.of_layers-all.ensures.period in
-    rw c.from_residual.ensures (more-by_period setup anims (record { some_num = c.num-num.ensures.some; some_den = c.den-den.ensures.some }) long)
+pub returns-clause-horizon : goal.returns-clause-horizon
+returns-clause-horizon c =
+    c.horizon_of.ensures.horizon c.args.setup.now (all_animations c.args.scene.now)
+    (subst (λ layers. IsRepeat c.args.setup.now (animations_of layers) c.of_layers.result) c.as_slice.ensures c.of_layers.ensures)
 
-pub returns-then-saturating_add-gt-MOST-clause-many : goal.returns-then-saturating_add-gt-MOST-clause-many
-returns-then-saturating_add-gt-MOST-clause-many c =
-    let setup = c.args.setup.now in
-    let all = c.of_layers-all.result in
-    let period = c.in_ok-period.period in
-    let known = subst (λ layers. IsRepeat setup (animations_of layers) all) c.as_slice.ensures c.of_layers-all.ensures in
-    let is = horizon-known setup (all_animations c.args.scene.now) all period known c.in_ok-period.was in
-    more-by_sum setup (all_animations c.args.scene.now) all.settled period is (omega (arith, c.saturating_add.ensures))
+pub returns-clause-many : goal.returns-clause-many
+returns-clause-many c =
+    c.horizon_of.ensures.many c.args.setup.now (all_animations c.args.scene.now)
+    (record { some_num = c.num-num.ensures.some; some_den = c.den-den.ensures.some })
+    (subst (λ layers. IsRepeat c.args.setup.now (animations_of layers) c.of_layers.result) c.as_slice.ensures c.of_layers.ensures)
 
 pub returns-clause-for_ever : goal.returns-clause-for_ever
 returns-clause-for_ever c =
-    let setup = c.args.setup.now in
-    let all = c.of_layers-all.result in
-    let period = c.in_ok-period.period in
-    let known = subst (λ layers. IsRepeat setup (animations_of layers) all) c.as_slice.ensures c.of_layers-all.ensures in
-    let is = horizon-known setup (all_animations c.args.scene.now) all period known c.in_ok-period.was in
-    enough c.args.scene.now setup all.settled period (record { some_num = c.num-num.ensures.some; some_den = c.den-den.ensures.some }) is
+    IfSome_then c.horizon_of.result (returns-clause-horizon c)
+    (λ h is. enough c.args.scene.now c.args.setup.now h.settled h.period
+    (record { some_num = c.num-num.ensures.some; some_den = c.den-den.ensures.some }) is)

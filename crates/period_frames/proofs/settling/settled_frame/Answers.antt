@@ -1,5 +1,4 @@
 -- The least frame whose moment isn't before the time at which the animation has settled.
-use Rattle.std.proofs.Common.{arith}
 use Rattle.period_frames.proofs.SettledLemmas.{settled-least}
 use Rattle.period_frames.proofs.settling.settled_frame.Goals as goal
 
