@@ -68,34 +68,60 @@ interval_at-some scene setup frame number place layer anim prop at layer_is anim
 one_more : (anims : List Anim) (i : ℕ) (anim : Anim) → i < length anims → take (i + 1) anims ≡ take i anims ++ get_or anims i anim ∷ []
 one_more anims i anim inside = ap (λ n. take n anims) (add-one i) ∙ take-suc anims i anim inside
 
-pub way-none : (scene : Scene) (setup : Setup) (frame i : ℕ) (layer : Layer) (anims : List Anim) (d : Anim) (prop : Prop) (found : Option Way)
-    → i < length anims → None ≡ option_map frac_of (progress_of setup (get_or anims i d) frame)
-    → found ≡ last_way scene setup frame layer (take i anims) prop
-    → found ≡ last_way scene setup frame layer (take (i + 1) anims) prop
-way-none scene setup frame i layer anims d prop found inside none e =
-    let anim : Anim = get_or anims i d in
-    e ∙ sym (ap (λ (seen : List Anim). last_way scene setup frame layer seen prop) (one_more anims i d inside)
-    ∙ last_way-more scene setup frame layer (take i anims) anim prop
-    ∙ ap (λ (o : Option Interval). later (last_way scene setup frame layer (take i anims) prop) (option_map eased_way o))
-    (interval_at-none scene.sets setup frame prop (declared layer prop) anim (mapped_none (progress_of setup anim frame) none)))
+-- the later of three
+later_grouped : (a b c : Option Way) → later (later a b) c ≡ later a (later b c)
+later_grouped a b None = refl
+later_grouped a b (Some way) = refl
+
+later_none : (a : Option Way) → later None a ≡ a
+later_none None = refl
+later_none (Some way) = refl
+
+-- the ways by the animations from a place on are those of all, where those before that place have the others
+abbrev pub IsLast : Scene → Setup → ℕ → Layer → List Anim → ℕ → Prop → Option Way → Type 0
+IsLast scene setup frame layer anims place prop found =
+    later (last_way scene setup frame layer (take place anims) prop) found ≡ last_way scene setup frame layer anims prop
+
+-- one animation before, without an effect or with one
+way-before : (scene : Scene) (setup : Setup) (frame place left : ℕ) (layer : Layer) (anims : List Anim) (d : Anim) (prop : Prop)
+    (found : Option Way) → place < length anims → left ≡ place + 1 → IsLast scene setup frame layer anims left prop found
+    → IsLast scene setup frame layer anims place prop
+    (later (option_map eased_way (interval_at scene.sets setup frame prop (declared layer prop) (get_or anims place d))) found)
+way-before scene setup frame place left layer anims d prop found inside next is =
+    let anim : Anim = get_or anims place d in
+    sym (later_grouped (last_way scene setup frame layer (take place anims) prop)
+    (option_map eased_way (interval_at scene.sets setup frame prop (declared layer prop) anim)) found)
+    ∙ ap (λ (way : Option Way). later way found)
+    (sym (ap (λ (seen : List Anim). last_way scene setup frame layer seen prop) (ap (λ n. take n anims) next ∙ one_more anims place d inside)
+    ∙ last_way-more scene setup frame layer (take place anims) anim prop))
+    ∙ is
+
+pub way-none : (scene : Scene) (setup : Setup) (frame place left : ℕ) (layer : Layer) (anims : List Anim) (d : Anim) (prop : Prop) (found : Option Way)
+    → place < length anims → left ≡ place + 1 → None ≡ option_map frac_of (progress_of setup (get_or anims place d) frame)
+    → IsLast scene setup frame layer anims left prop found → IsLast scene setup frame layer anims place prop found
+way-none scene setup frame place left layer anims d prop found inside next none is =
+    let anim : Anim = get_or anims place d in
+    ap (λ (way : Option Way). later (last_way scene setup frame layer (take place anims) prop) way)
+    (sym (ap (λ (o : Option Interval). later (option_map eased_way o) found)
+    (interval_at-none scene.sets setup frame prop (declared layer prop) anim (mapped_none (progress_of setup anim frame) none)) ∙ later_none found))
+    ∙ way-before scene setup frame place left layer anims d prop found inside next is
   where
     mapped_none : (o : Option Fraction) → None ≡ option_map frac_of o → o ≡ None
     mapped_none None e = refl
     mapped_none (Some x) e = absurd (cc)
 
-pub way-some : (scene : Scene) (setup : Setup) (frame number i : ℕ) (layer : Layer) (anims : List Anim) (d : Anim) (prop : Prop) (at : Frac)
-    (found next : Option Way) → i < length anims → slice_get scene.layers number ≡ Some layer → layer.anims ≡ anims
-    → Some at ≡ option_map frac_of (progress_of setup (get_or anims i d) frame)
-    → found ≡ last_way scene setup frame layer (take i anims) prop
-    → next ≡ later found (option_map eased_way (interval_here scene number i prop (fraction_of at)))
-    → next ≡ last_way scene setup frame layer (take (i + 1) anims) prop
-way-some scene setup frame number i layer anims d prop at found next inside layer_is own some e f =
-    let anim : Anim = get_or anims i d in
+pub way-some : (scene : Scene) (setup : Setup) (frame number place left : ℕ) (layer : Layer) (anims : List Anim) (d : Anim) (prop : Prop) (at : Frac)
+    (found more : Option Way) → place < length anims → left ≡ place + 1 → slice_get scene.layers number ≡ Some layer → layer.anims ≡ anims
+    → Some at ≡ option_map frac_of (progress_of setup (get_or anims place d) frame)
+    → IsLast scene setup frame layer anims left prop found
+    → more ≡ later (option_map eased_way (interval_here scene number place prop (fraction_of at))) found
+    → IsLast scene setup frame layer anims place prop more
+way-some scene setup frame number place left layer anims d prop at found more inside next layer_is own some is e =
+    let anim : Anim = get_or anims place d in
     let mapped = mapped_some frac_of (progress_of setup anim frame) at (sym some) in
     let at_is : progress_of setup anim frame ≡ Some (fraction_of at) = mapped.1 ∙ ap (λ (y : Frac). Some (fraction_of y)) mapped.2 in
-    let anim_is : slice_get layer.anims i ≡ Some anim = ap (λ (xs : List Anim). slice_get xs i) own ∙ slice_get-get_or anims i d inside in
-    f ∙ ap (λ (o : Option Way). later o (option_map eased_way (interval_here scene number i prop (fraction_of at)))) e
-    ∙ sym (ap (λ (seen : List Anim). last_way scene setup frame layer seen prop) (one_more anims i d inside)
-    ∙ last_way-more scene setup frame layer (take i anims) anim prop
-    ∙ ap (λ (o : Option Interval). later (last_way scene setup frame layer (take i anims) prop) (option_map eased_way o))
-    (interval_at-some scene setup frame number i layer anim prop (fraction_of at) layer_is anim_is at_is))
+    let anim_is : slice_get layer.anims place ≡ Some anim = ap (λ (xs : List Anim). slice_get xs place) own ∙ slice_get-get_or anims place d inside in
+    ap (λ (way : Option Way). later (last_way scene setup frame layer (take place anims) prop) way)
+    (e ∙ ap (λ (o : Option Interval). later (option_map eased_way o) found)
+    (sym (interval_at-some scene setup frame number place layer anim prop (fraction_of at) layer_is anim_is at_is)))
+    ∙ way-before scene setup frame place left layer anims d prop found inside next is

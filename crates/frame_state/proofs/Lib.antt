@@ -3,8 +3,10 @@ pub mod CourseLemmas
 pub mod EndLemmas
 pub mod ListLemmas
 pub mod MixLemmas
+pub mod NamedLemmas
 pub mod PlainLemmas
 pub mod RangeLemmas
 pub mod RoundingLemmas
 pub mod StateLemmas
+pub mod StillLemmas
 pub mod ValueLemmas

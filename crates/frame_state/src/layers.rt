@@ -3,131 +3,47 @@ ghost use Rattle.std.specs.Prelude.{Some, IfSome, ◌≡◌, ◌^◌, ◌<◌, f
 ghost use Rattle.page_model.specs.declared.scene.Layer.{Layer as Element};
 ghost use Rattle.page_model.specs.Enclosure.{own, wide, IsLooseStateAt, LooseState};
 ghost use Rattle.page_model.specs.LayerAt as definition;
-ghost use Rattle.page_model.specs.Slot as slots;
 ghost use Rattle.page_model.specs.ValidScene.{IsColour, IsValid};
 ghost use Rattle.tint_laws.specs.TintLaws.{LooseStateWithin, StateWithin};
-ghost use Rattle.frame_state.specs.Ends.{IsEnd};
 ghost use Rattle.frame_state.specs.Scenes.{is_cubic};
-ghost use Rattle.frame_state.specs.States.{slot_as, loose_as, sureness_of, state_as, states_as, sure_with, state_by, known, IsInSlots, AreOwn, AreExact, AreInSlots};
-ghost use Rattle.frame_state.specs.Ways as ways;
-ghost use Rattle.frame_state.specs.Ways.{end_of, way_as, way_in, channel_by, value_by};
+ghost use Rattle.frame_state.specs.States.{state_as, states_as, state_by, known, IsInSlots, AreOwn, AreExact, AreInSlots};
+ghost use Rattle.frame_state.specs.Ways.{way_in};
 
-use crate::channels::channel_on;
-use crate::parts::{alpha_of, blue_of, cover_of, green_of, length_of, red_of, visible_of};
-use crate::slots::{ALPHA, COVER, EXTENT, POSITION, Slot, slot_value};
-use crate::types::{LayerState, Shown};
-use crate::way::{Way, Ways};
-use crate::ways::{way_of, ways_at};
-use fix_span::{Frac, Loose};
-use page_model::{Layer, Prop, Rgba, Scene, Setup};
-
-// Whether a box is hidden between two visibilities, at an end.
-fn hides_at(from: bool, to: bool, end: Frac) -> bool
-    requires { IsEnd end }
-    ensures { result ≡ ways.hides_at from to (end_of end) }
-{
-    match (from, to) {
-        (true, true) => false,
-        (true, false) => end.den <= end.num,
-        (false, true) => end.num <= 0,
-        (false, false) => true,
-    }
-}
-
-// How surely a box is shown on a way.
-fn shown_by(way: Way) -> Shown
-    ensures { sureness_of result ≡ ways.shown_by (way_as way) }
-{
-    let from = visible_of(way.from);
-    let to = visible_of(way.to);
-    match (
-        hides_at(from, to, way.least),
-        hides_at(from, to, way.greatest),
-    ) {
-        (true, true) => Shown::No,
-        (false, false) => Shown::Yes,
-        _ => Shown::Maybe,
-    }
-}
-
-fn shown_with(colour: Option<Rgba>, way: Way) -> Shown
-    ensures { sureness_of result ≡ sure_with colour (way_as way) }
-{
-    match colour {
-        Some(_) => shown_by(way),
-        None => Shown::No,
-    }
-}
-
-// The channels, the cover and the alpha on a way.
-
-fn red_on(way: Way) -> Loose
-    ensures { loose_as result ≡ channel_by definition.red_of (way_as way) }
-{
-    let from = red_of(way.from);
-    channel_on(from, red_of(way.to), way.least, way.greatest, way.moves)
-}
-
-fn green_on(way: Way) -> Loose
-    ensures { loose_as result ≡ channel_by definition.green_of (way_as way) }
-{
-    let from = green_of(way.from);
-    channel_on(from, green_of(way.to), way.least, way.greatest, way.moves)
-}
-
-fn blue_on(way: Way) -> Loose
-    ensures { loose_as result ≡ channel_by definition.blue_of (way_as way) }
-{
-    let from = blue_of(way.from);
-    channel_on(from, blue_of(way.to), way.least, way.greatest, way.moves)
-}
-
-fn cover_on(way: Way) -> Loose
-    ensures { loose_as result ≡ value_by slots.cover definition.cover_of (way_as way) }
-{
-    let from = cover_of(way.from);
-    slot_value(COVER, from, cover_of(way.to), way.least, way.greatest)
-}
-
-fn alpha_on(way: Way) -> Loose
-    ensures { loose_as result ≡ value_by slots.alpha definition.alpha_of (way_as way) }
-{
-    let from = alpha_of(way.from);
-    slot_value(ALPHA, from, alpha_of(way.to), way.least, way.greatest)
-}
-
-// A length on a way, in whole pixels.
-fn pixels(slot: Slot, way: Way) -> Loose
-    requires { 0 < slot.unit }
-    ensures { loose_as result ≡ value_by (slot_as slot) definition.length_of (way_as way) }
-{
-    let from = length_of(way.from);
-    slot_value(slot, from, length_of(way.to), way.least, way.greatest)
-}
+use crate::found::{alpha_by, fill_by, pixels_by, shown_with};
+use crate::slots::{EXTENT, POSITION};
+use crate::types::LayerState;
+use crate::way::Ways;
+use crate::ways::ways_at;
+use keyframe_sets::declared;
+use page_model::{Layer, Prop, Scene, Setup};
 
 // The state of a layer, by what animations make of its properties.
-fn state_of(layer: &Layer, ways: Ways) -> LayerState
+fn state_of(layer: &Layer, ways: &Ways) -> LayerState
     requires { IfSome layer.now.colour IsColour }
-    ensures { state_as result ≡ state_by layer.now (way_in layer.now ways) }
+    ensures { state_as result ≡ state_by layer.now (way_in layer.now ways.now) }
 {
-    let fill = way_of(layer, Prop::Background, ways.background);
-    let opacity = way_of(layer, Prop::Opacity, ways.opacity);
-    let visibility = way_of(layer, Prop::Visibility, ways.visibility);
-    let left = way_of(layer, Prop::Left, ways.left);
-    let top = way_of(layer, Prop::Top, ways.top);
-    let width = way_of(layer, Prop::Width, ways.width);
-    let height = way_of(layer, Prop::Height, ways.height);
+    let held = layer.important;
+    let fill = fill_by(
+        held.background,
+        declared(layer, Prop::Background),
+        &ways.background,
+    );
+    let visible = declared(layer, Prop::Visibility);
+    let left = declared(layer, Prop::Left);
+    let top = declared(layer, Prop::Top);
+    let width = declared(layer, Prop::Width);
+    let height = declared(layer, Prop::Height);
     LayerState {
-        shown: shown_with(layer.colour, visibility),
-        r: red_on(fill),
-        g: green_on(fill),
-        b: blue_on(fill),
-        cover: cover_on(fill),
-        alpha: alpha_on(opacity),
-        left: pixels(POSITION, left),
-        top: pixels(POSITION, top),
-        width: pixels(EXTENT, width),
-        height: pixels(EXTENT, height),
+        shown: shown_with(layer.colour, held.visibility, visible, &ways.visibility),
+        r: fill.r,
+        g: fill.g,
+        b: fill.b,
+        cover: fill.cover,
+        alpha: alpha_by(held.opacity, declared(layer, Prop::Opacity), &ways.opacity),
+        left: pixels_by(POSITION, held.left, left, &ways.left),
+        top: pixels_by(POSITION, held.top, top, &ways.top),
+        width: pixels_by(EXTENT, held.width, width, &ways.width),
+        height: pixels_by(EXTENT, held.height, height, &ways.height),
     }
 }
 
@@ -155,7 +71,7 @@ pub fn layer_at(scene: &Scene, setup: &Setup, k: u64, layer: u16) -> LayerState
 {
     let element = &scene.layers.as_slice()[layer as usize];
     let ways = ways_at(scene, setup, k, layer, element.anims.as_slice());
-    state_of(element, ways)
+    state_of(element, &ways)
 }
 
 /// The states of all layers in frame `k`, by number.

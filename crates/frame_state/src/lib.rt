@@ -14,7 +14,9 @@
 #![tactic(auto)]
 
 mod channels;
+mod found;
 mod layers;
+mod named;
 mod parts;
 mod slots;
 mod types;

@@ -1,7 +1,7 @@
 // The whole values of slots, rounded half up and held in their ranges.
 ghost use Rattle.std.specs.Prelude.{◌≡◌, ◌↔◌, IsTrue, pos, neg_ℤ, ◌*◌, ◌^◌, ◌<◌, ◌<ℤ◌, ◌≤ℤ◌};
 ghost use Rattle.page_model.specs.ValidScene.{IsBetween};
-ghost use Rattle.std.specs.Int.{int_max, int_min};
+ghost use Rattle.std.specs.Int.{int_div_euclid, int_max, int_min};
 ghost use Rattle.frame_state.specs.Ends.{IsEnd};
 ghost use Rattle.frame_state.specs.States.{slot_as, loose_as};
 ghost use Rattle.frame_state.specs.Ways as definition;
@@ -59,6 +59,27 @@ pub fn loose_of(first: i32, second: i32) -> Loose
     }
 }
 
+// Whether a number is less than 2^62, either way.
+fn is_small(value: i128) -> bool
+    ensures { IsTrue result ↔ IsBetween (neg_ℤ (pos (2 ^ 62))) (pos (2 ^ 62)) value }
+{
+    -(1 << 62) <= value && value <= 1 << 62
+}
+
+// The quotient of a number by a positive one, rounded down: in 64 bits where both fit.
+fn quotient(value: i128, parts: i128) -> i128
+    requires { pos 0 <ℤ parts }
+    ensures { result ≡ int_div_euclid value parts }
+{
+    if !is_small(value) {
+        return value.div_euclid(parts);
+    }
+    if !is_small(parts) {
+        return value.div_euclid(parts);
+    }
+    (value as i64).div_euclid(parts as i64) as i128
+}
+
 // A number over so many parts, rounded half up, and held in a range.
 pub fn rounded(value: i128, parts: i128, least: i32, greatest: i32) -> i32
     requires some { pos 0 <ℤ parts }
@@ -66,7 +87,7 @@ pub fn rounded(value: i128, parts: i128, least: i32, greatest: i32) -> i32
     requires range { IsBetween (neg_ℤ (pos (2 ^ 100))) (pos (2 ^ 100)) value }
     ensures { result ≡ int_max least (int_min (definition.half_up value parts) greatest) }
 {
-    let whole = (2 * value + parts).div_euclid(2 * parts);
+    let whole = quotient(2 * value + parts, 2 * parts);
     whole.min(greatest as i128).max(least as i128) as i32
 }
 
@@ -98,6 +119,19 @@ pub fn are_same(first: Frac, second: Frac) -> bool
     first == second
 }
 
+// The value of a slot that stays at a number.
+pub fn still(slot: Slot, own: i32) -> Loose
+    requires { 0 < slot.unit }
+    ensures { loose_as result
+        ≡ definition.slot_between (slot_as slot) own own definition.nothing_made definition.nothing_made }
+{
+    let value = rounded(own as i128, slot.unit as i128, slot.least, slot.greatest);
+    Loose {
+        lo: value,
+        hi: value,
+    }
+}
+
 // The value of a slot on the way from one number to another, between its values at two ends.
 pub fn slot_value(slot: Slot, from: i32, to: i32, least: Frac, greatest: Frac) -> Loose
     requires unit { 0 < slot.unit }
@@ -106,6 +140,9 @@ pub fn slot_value(slot: Slot, from: i32, to: i32, least: Frac, greatest: Frac) -
     ensures { loose_as result
         ≡ definition.slot_between (slot_as slot) from to (definition.end_of least) (definition.end_of greatest) }
 {
+    if from == to {
+        return still(slot, from);
+    }
     let first = value_at(slot, from, to, least);
     if are_same(least, greatest) {
         return loose_of(first, first);

@@ -1,41 +1,26 @@
 // The ways of a layer's properties.
-ghost use Rattle.std.specs.Prelude.{Some, length, ◌≡◌, pos, ◌^◌, ◌<◌, ◌≤◌, ◌≤ℤ◌, All, IfSome, slice_get, option_map};
+ghost use Rattle.std.specs.Prelude.{None, Some, false, length, ◌≡◌, pos, ◌^◌, ◌<◌, ◌≤◌, ◌≤ℤ◌, All, slice_get, option_map};
 ghost use Rattle.page_model.specs.declared.property.Prop.{Prop as Property};
 ghost use Rattle.page_model.specs.declared.scene.Layer.{Layer as Element};
-ghost use Rattle.page_model.specs.LayerAt as shown;
-ghost use Rattle.page_model.specs.ValidScene.{IsColour, IsEasing, IsValid};
+ghost use Rattle.page_model.specs.ValidScene.{IsEasing, IsValid};
 ghost use Rattle.fix_span.specs.Frac.{fraction_of, IsShare};
 ghost use Rattle.anim_timing.specs.Timed.{IsTimed};
 ghost use Rattle.keyframe_sets.specs.Here.{interval_here};
 ghost use Rattle.easing_bounds.specs.Value.{AreModest, IfExact, IfWithin};
 ghost use Rattle.frame_state.specs.Alpha.{HasAlpha};
 ghost use Rattle.frame_state.specs.Ends.{IsEnd};
+ghost use Rattle.frame_state.specs.Named.{is_named};
 ghost use Rattle.frame_state.specs.Ways as definition;
 
+use crate::named::{Named, named_by};
 use crate::way::{Way, Ways};
 use anim_timing::progress;
 use easing_bounds::eased;
 use easing_bounds::types::Eased;
 use fix_span::Frac;
+use keyframe_sets::interval;
 use keyframe_sets::types::Interval;
-use keyframe_sets::{declared, interval};
-use page_model::{Anim, Held, Layer, Prop, Scene, Setup, Value};
-
-// The way of a value that stays.
-fn stays(value: Value) -> Way
-    requires { HasAlpha value }
-    ensures { definition.way_as result ≡ definition.stays value }
-{
-    Way {
-        from: value,
-        to: value,
-        least: NOTHING_MADE,
-        greatest: NOTHING_MADE,
-        moves: false,
-    }
-}
-
-const NOTHING_MADE: Frac = Frac { num: 0, den: 1 };
+use page_model::{Anim, Prop, Scene, Setup};
 
 // How many parts the ends of a curve's value are told in.
 const CURVE_PARTS: i128 = 1 << 30;
@@ -108,48 +93,97 @@ fn way_at(scene: &Scene, layer: u16, anim: u16, prop: Prop, at: Frac) -> Option<
     }
 }
 
-// The way of a property, by one more animation or else as it was found before.
-fn latest(
+// The way of a property, as a later animation gave it or else by one before.
+fn add_way(
+    found: &mut Option<Way>,
+    named: bool,
     scene: &Scene,
     layer: u16,
     anim: u16,
     prop: Prop,
     at: Frac,
-    before: Option<Way>,
-) -> Option<Way>
+)
     requires valid { IsValid scene.now }
     requires share { IsShare at }
     requires few { at.den ≤ℤ pos 24000000000 }
-    ensures { option_map definition.way_as result
-        ≡ definition.later (option_map definition.way_as before)
-        (option_map definition.eased_way
-        (interval_here scene.now layer anim prop (fraction_of at))) }
+    requires unnamed { named ≡ false → interval_here scene.now layer anim prop (fraction_of at) ≡ None }
+    ensures { option_map definition.way_as found.new
+        ≡ definition.later (option_map definition.eased_way
+        (interval_here scene.now layer anim prop (fraction_of at)))
+        (option_map definition.way_as found.old) }
 {
-    match way_at(scene, layer, anim, prop, at) {
-        Some(way) => Some(way),
-        None => before,
+    if named && found.is_none() {
+        *found = way_at(scene, layer, anim, prop, at);
     }
 }
 
-// The ways with those of one more animation.
-fn with_animation(scene: &Scene, layer: u16, anim: u16, at: Frac, ways: Ways) -> Ways
+// The ways with those of an animation before.
+fn add_animation(ways: &mut Ways, scene: &Scene, layer: u16, anim: u16, named: Named, at: Frac)
     requires valid { IsValid scene.now }
     requires share { IsShare at }
     requires few { at.den ≤ℤ pos 24000000000 }
-    ensures { (prop : Property) → definition.way_found result prop
-        ≡ definition.later (definition.way_found ways prop)
-        (option_map definition.eased_way
-        (interval_here scene.now layer anim prop (fraction_of at))) }
+    requires unnamed { (prop : Property) → is_named named prop ≡ false
+        → interval_here scene.now layer anim prop (fraction_of at) ≡ None }
+    ensures { (prop : Property) → definition.way_found ways.new prop
+        ≡ definition.later (option_map definition.eased_way
+        (interval_here scene.now layer anim prop (fraction_of at)))
+        (definition.way_found ways.old prop) }
 {
-    Ways {
-        background: latest(scene, layer, anim, Prop::Background, at, ways.background),
-        opacity: latest(scene, layer, anim, Prop::Opacity, at, ways.opacity),
-        visibility: latest(scene, layer, anim, Prop::Visibility, at, ways.visibility),
-        left: latest(scene, layer, anim, Prop::Left, at, ways.left),
-        top: latest(scene, layer, anim, Prop::Top, at, ways.top),
-        width: latest(scene, layer, anim, Prop::Width, at, ways.width),
-        height: latest(scene, layer, anim, Prop::Height, at, ways.height),
-    }
+    add_way(
+        &mut ways.background,
+        named.background,
+        scene,
+        layer,
+        anim,
+        Prop::Background,
+        at,
+    );
+    add_way(
+        &mut ways.opacity,
+        named.opacity,
+        scene,
+        layer,
+        anim,
+        Prop::Opacity,
+        at,
+    );
+    add_way(
+        &mut ways.visibility,
+        named.visibility,
+        scene,
+        layer,
+        anim,
+        Prop::Visibility,
+        at,
+    );
+    add_way(
+        &mut ways.left,
+        named.left,
+        scene,
+        layer,
+        anim,
+        Prop::Left,
+        at,
+    );
+    add_way(&mut ways.top, named.top, scene, layer, anim, Prop::Top, at);
+    add_way(
+        &mut ways.width,
+        named.width,
+        scene,
+        layer,
+        anim,
+        Prop::Width,
+        at,
+    );
+    add_way(
+        &mut ways.height,
+        named.height,
+        scene,
+        layer,
+        anim,
+        Prop::Height,
+        at,
+    );
 }
 
 const NO_WAYS: Ways = Ways {
@@ -162,7 +196,8 @@ const NO_WAYS: Ways = Ways {
     height: None,
 };
 
-// The ways of a layer's properties at a frame, each by the last animation that has an effect and names it.
+// The ways of a layer's properties at a frame, each by the last animation that has an effect and names it: from the
+// last animation to the first, so that a value is eased once.
 pub fn ways_at(scene: &Scene, setup: &Setup, k: u64, layer: u16, anims: &[Anim]) -> Ways
     requires valid { IsValid scene.now }
     requires frame { k < 2 ^ 32 }
@@ -174,40 +209,13 @@ pub fn ways_at(scene: &Scene, setup: &Setup, k: u64, layer: u16, anims: &[Anim])
         → definition.AreWays scene.now setup.now k l anims.now result }
 {
     let mut ways = NO_WAYS;
-    for (i, anim) in anims.iter().enumerate() {
+    for i in 0..anims.len() {
+        let place = anims.len() - 1 - i;
+        let anim = &anims[place];
         if let Some(at) = progress(anim, setup, k) {
-            ways = with_animation(scene, layer, i as u16, at, ways);
+            let named = named_by(scene, anim);
+            add_animation(&mut ways, scene, layer, place as u16, named, at);
         }
     }
     ways
-}
-
-// Whether the winning declaration of a property is important.
-fn is_held(held: Held, prop: Prop) -> bool
-    ensures { result ≡ shown.is_held held prop }
-{
-    match prop {
-        Prop::Background => held.background,
-        Prop::Opacity => held.opacity,
-        Prop::Visibility => held.visibility,
-        Prop::Left => held.left,
-        Prop::Top => held.top,
-        Prop::Width => held.width,
-        Prop::Height => held.height,
-    }
-}
-
-// The way of a property, by what animations make of it.
-pub fn way_of(layer: &Layer, prop: Prop, found: Option<Way>) -> Way
-    requires { IfSome layer.now.colour IsColour }
-    ensures { definition.way_as result ≡ definition.chosen (shown.is_held layer.now.important prop)
-        (shown.declared layer.now prop) (option_map definition.way_as found) }
-{
-    if is_held(layer.important, prop) {
-        return stays(declared(layer, prop));
-    }
-    match found {
-        Some(way) => way,
-        None => stays(declared(layer, prop)),
-    }
 }

@@ -32,17 +32,17 @@ wider z fits = omega (arith, ints)
 
 max-is : (c : goal.After-max) → c.max.result ≡ int_max c.args.least (int_min (definition.half_up c.args.value c.args.parts) c.args.greatest)
 max-is c =
-    let whole : FitsSigned w128 c.div_euclid-whole.result = omega (arith, ints, c.div_euclid-whole.type_inv) in
+    let whole : FitsSigned w128 c.quotient-whole.result = omega (arith, ints, c.quotient-whole.type_inv) in
     let low : FitsSigned w128 c.min.result = omega (arith, ints, c.min.type_inv) in
     let least = to_z-of_z w32 c.args.least c.ranges.least in
     let greatest = to_z-of_z w32 c.args.greatest c.ranges.greatest in
     let least' = to_z-of_z w128 c.args.least (wider c.args.least c.ranges.least) in
     let greatest' = to_z-of_z w128 c.args.greatest (wider c.args.greatest c.ranges.greatest) in
-    held-is c.div_euclid-whole.result (definition.half_up c.args.value c.args.parts) c.args.least c.args.greatest c.min.result c.max.result
+    held-is c.quotient-whole.result (definition.half_up c.args.value c.args.parts) c.args.least c.args.greatest c.min.result c.max.result
     c.ranges.least c.ranges.greatest
-    (quotient c.div_euclid-whole.result c.args.value c.args.parts c.ranges.value c.ranges.parts c.requires.some c.requires.few
-    c.requires.range.at_least c.requires.range.at_most c.div_euclid-whole.ensures)
-    (rw (to_z-of_z w128 c.div_euclid-whole.result whole, greatest, greatest') at c.min.ensures.value)
+    (quotient c.quotient-whole.result c.args.value c.args.parts c.ranges.value c.ranges.parts c.requires.some c.requires.few
+    c.requires.range.at_least c.requires.range.at_most c.quotient-whole.ensures)
+    (rw (to_z-of_z w128 c.quotient-whole.result whole, greatest, greatest') at c.min.ensures.value)
     (rw (to_z-of_z w128 c.min.result low, least, least') at c.max.ensures.value)
 
 pub overflow_cast-result : goal.overflow_cast-result

@@ -1,11 +1,22 @@
--- Both ends, or the one that both are.
-use Rattle.std.proofs.Common.{◌≡◌, ◌∙◌, of_z, to_z, ap, arith}
+-- A number that stays, both ends, or the one that both are.
+use Rattle.std.proofs.Common.{◌≡◌, ◌∙◌, of_z, to_z, ap, arith, sym}
 use Rattle.std.specs.Int.{w32}
 use Rattle.std.proofs.lemmas.Int.{ints, to_z-of_z}
 use Rattle.fix_span.specs.declared.frac.Frac.{Frac}
 use Rattle.frame_state.specs.States.{slot_as}
 use Rattle.frame_state.specs.Ways as definition
+use Rattle.frame_state.proofs.MixLemmas.{den-positive}
+use Rattle.frame_state.proofs.StillLemmas.{slot-stays}
 use Rattle.frame_state.proofs.slots.slot_value.Goals as goal
+
+pub returns-then-from-to : goal.returns-then-from-to
+returns-then-from-to c =
+    let is = rw (to_z-of_z w32 c.args.from c.ranges.from) at c.still.ensures in
+    let first = to_z-of_z w32 c.args.from c.ranges.from in
+    let second = to_z-of_z w32 c.args.to c.ranges.to in
+    let same = sym first ∙ ap (to_z w32) c.if-from-to.true ∙ second in
+    is ∙ sym (slot-stays (slot_as c.args.slot) c.args.from c.args.to (definition.end_of c.args.least) (definition.end_of c.args.greatest)
+    same c.requires.unit (den-positive c.args.least c.requires.least) (den-positive c.args.greatest c.requires.greatest))
 
 pub returns-then-are_same : goal.returns-then-are_same
 returns-then-are_same c =

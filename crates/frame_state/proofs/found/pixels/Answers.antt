@@ -4,7 +4,7 @@ use Rattle.std.specs.Int.{w32}
 use Rattle.std.proofs.lemmas.Int.{ints, to_z-of_z}
 use Rattle.frame_state.specs.States.{slot_as}
 use Rattle.frame_state.specs.Ways.{end_of, slot_between}
-use Rattle.frame_state.proofs.layers.pixels.Goals as goal
+use Rattle.frame_state.proofs.found.pixels.Goals as goal
 
 pub returns : goal.returns
 returns c =

@@ -1,0 +1,96 @@
+// Which properties the keyframes of an animation name.
+ghost use Rattle.std.specs.Prelude.{◌≡◌, ◌||◌, false, Some, slice_get};
+ghost use Rattle.std.specs.List.{list_any};
+ghost use Rattle.page_model.specs.declared.keyframe.KeyframeSet.{KeyframeSet as Set};
+ghost use Rattle.page_model.specs.declared.property.Prop.{Prop as Property};
+ghost use Rattle.page_model.specs.Keyframes.{is_same, names, number_of};
+ghost use Rattle.frame_state.specs.Named.{is_named, is_set_by};
+
+use page_model::{Anim, Keyframe, Prop, Scene, Setting};
+
+// Of each property whether it is named.
+#[derive(Clone, Copy)]
+pub struct Named {
+    pub background: bool,
+    pub opacity: bool,
+    pub visibility: bool,
+    pub left: bool,
+    pub top: bool,
+    pub width: bool,
+    pub height: bool,
+}
+
+const NONE_NAMED: Named = Named {
+    background: false,
+    opacity: false,
+    visibility: false,
+    left: false,
+    top: false,
+    width: false,
+    height: false,
+};
+
+// A number for each property.
+fn number_of(prop: Prop) -> u8
+    ensures { result ≡ number_of prop }
+{
+    match prop {
+        Prop::Background => 0,
+        Prop::Opacity => 1,
+        Prop::Visibility => 2,
+        Prop::Left => 3,
+        Prop::Top => 4,
+        Prop::Width => 5,
+        Prop::Height => 6,
+    }
+}
+
+// With one more property.
+fn with_prop(named: Named, prop: Prop) -> Named
+    ensures { (other : Property) → is_named result other ≡ (is_named named other || is_same prop other) }
+{
+    let number = number_of(prop);
+    Named {
+        background: named.background || number == 0,
+        opacity: named.opacity || number == 1,
+        visibility: named.visibility || number == 2,
+        left: named.left || number == 3,
+        top: named.top || number == 4,
+        width: named.width || number == 5,
+        height: named.height || number == 6,
+    }
+}
+
+// With those of some settings.
+fn with_settings(before: Named, values: &[Setting]) -> Named
+    ensures { (other : Property) → is_named result other
+        ≡ (is_named before other || list_any (λ setting. is_same setting.prop other) values.now) }
+{
+    let mut named = before;
+    for setting in values {
+        named = with_prop(named, setting.prop);
+    }
+    named
+}
+
+// Those of some keyframes.
+fn named_in(frames: &[Keyframe]) -> Named
+    ensures { (other : Property) → is_named result other ≡ list_any (is_set_by other) frames.now }
+{
+    let mut named = NONE_NAMED;
+    for frame in frames {
+        named = with_settings(named, frame.values.as_slice());
+    }
+    named
+}
+
+// Those of an animation's set: no other property is named there.
+pub fn named_by(scene: &Scene, anim: &Anim) -> Named
+    ensures { (other : Property) (set : Set) → is_named result other ≡ false
+        → slice_get scene.now.sets anim.now.set ≡ Some set → names other set.frames ≡ false }
+{
+    match scene.sets.get(anim.set as usize) {
+        Some(set) => named_in(set.frames.as_slice()),
+        None => NONE_NAMED,
+    }
+}
