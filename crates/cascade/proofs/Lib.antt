@@ -1,4 +1,5 @@
 pub mod PaintingLemmas
+pub mod ResolvingLemmas
 pub mod SceneLemmas
 pub mod SourceLemmas
 pub mod TableLemmas

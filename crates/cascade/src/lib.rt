@@ -4,7 +4,7 @@
 //! [`resolve`] is the one call, made by those who load a page. Its clauses say that it gives the scene of its sources,
 //! which is a valid scene, and that it refuses exactly where an element has a fault, with the fault of the first such
 //! element: a box that lacks its place, size or colour, a body with a property that it may not have, a list of more
-//! than eight animations.
+//! than eight animations. Sources have a scene or a first fault ([`every_source_is_resolved`]).
 //!
 //! Each element is a layer, with the values of its winning declarations. A sheet's keyframe sets that name no property
 //! are left out, and animations are numbered among those that stay. How a rule matches and which declaration wins is
@@ -14,6 +14,7 @@
 mod animations;
 mod faults;
 mod items;
+mod laws;
 mod layer;
 mod layers;
 mod longhands;
@@ -23,5 +24,6 @@ mod resolving;
 mod scene_fault;
 mod tables;
 
+pub use laws::every_source_is_resolved;
 pub use resolving::resolve;
 pub use scene_fault::SceneFault;

@@ -1,13 +1,11 @@
 -- A tracker sees a cell's tints frame by frame, and tells its flags window by window.
 use Rattle.std.proofs.Common.{◌≡◌, ◌∙◌, ℕ, ◌+◌, ◌-◌, ◌*◌, ◌<◌, ◌≤◌, List, [], ◌∷◌, ◌++◌, length, drop, slice_get, Some, ap, arith, inl, inr, refl, subst, sym, length-append, length-drop}
-use Rattle.std.specs.Prelude.{◌↔◌, IsTrue}
 use Rattle.std.proofs.lemmas.Bool.{cases_lt}
 use Rattle.std.proofs.lemmas.Nat.{mul-add-lt}
 use Rattle.std.proofs.lemmas.Option.{slice_get_within}
 use Rattle.page_model.specs.declared.colour.Tint.{Tint}
 use Rattle.flash_count.specs.declared.tracking.Flag.{Flag}
-use Rattle.flash_count.specs.Chains.{HasPossibleChain, HasSureChain}
-use Rattle.flash_count.specs.Tracked.{Tracked, pushed, untracked}
+use Rattle.flash_count.specs.Tracked.{Tells, Tracked, pushed, untracked}
 use Rattle.flash_count.proofs.TrackedLemmas.{tracked_after-none, tracked_after-push}
 use Rattle.cell_tints.proofs.ListLemmas.{slice_get-back, slice_get-drop, slice_get-front}
 use Rattle.cell_flags.specs.Flags.{AddsFlags, AreFlagsBefore, IsFlagAt, IsTracking}
@@ -44,9 +42,8 @@ tracking-more tints cells cell rate frames old new tint tracking is next = recor
 }
 
 pub flag-at : (tints : List Tint) (cells cell rate start : ℕ) (tracker : Tracked) (flag : Flag)
-    → IsTracking tints cells cell rate (start + rate + 1) tracker → (IsTrue flag.possible ↔ HasPossibleChain tracker.recent)
-    → (IsTrue flag.sure ↔ HasSureChain tracker.recent) → IsFlagAt tints cells cell rate start flag
-flag-at tints cells cell rate start tracker flag tracking possible sure =
+    → IsTracking tints cells cell rate (start + rate + 1) tracker → Tells tracker.recent flag → IsFlagAt tints cells cell rate start flag
+flag-at tints cells cell rate start tracker flag tracking tells =
     let first : length tracking.seen - (rate + 1) ≡ start = omega (arith, tracking.count) in
     let recent : tracker.recent ≡ drop start tracking.seen =
     ap (λ (t : Tracked). t.recent) tracking.is ∙ ap (λ n. drop n tracking.seen) first in record {
@@ -56,8 +53,7 @@ flag-at tints cells cell rate start tracker flag tracking possible sure =
           let place : start + k ≡ 0 + (start + k) = omega arith in
           ap (λ n. slice_get tints (n * cells + cell)) place
           ∙ tracking.each (start + k) tint (sym (slice_get-drop start tracking.seen k) ∙ e);
-      possible = subst (λ (ts : List Tint). IsTrue flag.possible ↔ HasPossibleChain ts) recent possible;
-      sure = subst (λ (ts : List Tint). IsTrue flag.sure ↔ HasSureChain ts) recent sure;
+      tells = subst (λ (ts : List Tint). Tells ts flag) recent tells;
     }
 
 -- flags of one cell, one by one

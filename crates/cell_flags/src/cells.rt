@@ -2,8 +2,7 @@
 ghost use Rattle.std.specs.Prelude.{◌≤◌, IfOk};
 ghost use Rattle.page_model.specs.Horizon.{frames_for};
 ghost use Rattle.page_model.specs.ValidScene.{IsValid};
-ghost use Rattle.region_split.specs.Cutting.{IsCut};
-ghost use Rattle.cell_flags.specs.Flags.{AreFlags};
+ghost use Rattle.cell_flags.specs.Flags.{AreAlikeCells, AreFlags};
 
 use crate::tracked::add_flags;
 use cell_tints::tints_of_cells;
@@ -13,7 +12,7 @@ use region_split::Cuts;
 use std::alloc::Global;
 
 /// The flags of all cells of a scene in so many windows, the first of which begins at frame 0: cell by cell, and of each cell
-/// window by window. They are those of each pixel of the cell. The cuts are the scene's in the frames of these windows. It takes
+/// window by window. They are those of each pixel of the cell, as the layers cover these alike in the frames of these windows. It takes
 /// memory for the tints of all cells in all these frames, six bytes each, and two bytes for each flag.
 ///
 /// # Errors
@@ -28,7 +27,7 @@ pub fn flags_of_cells(
 ) -> Result<Vec<Flag>, NoMemory>
     requires valid { IsValid scene.now }
     requires few { windows ≤ 100000 }
-    requires cut { IsCut scene.now setup.now (frames_for setup.now windows) cuts.now }
+    requires cells { AreAlikeCells scene.now setup.now (frames_for setup.now windows) cuts.now }
     ensures { IfOk result (λ flags. AreFlags scene.now setup.now cuts.now windows flags.items) }
 {
     let rate = setup.rate();

@@ -31,3 +31,9 @@ pub record AreTintsBefore (scene : Scene) (setup : Setup) (edges : Edges) (start
 -- tints are those of all cells in so many frames from a start on
 abbrev pub AreTintsOfCells : Scene → Setup → Edges → ℕ → ℕ → List Tint → Type 0
 AreTintsOfCells scene setup edges start frames tints = AreTintsBefore scene setup edges start (cells_of edges * frames) tints
+
+-- tints are those of the first cells in a frame, so many, cell by cell
+abbrev pub AreTintsIn : Scene → Setup → Edges → ℕ → ℕ → List Tint → Type 0
+AreTintsIn scene setup edges frame count tints =
+    (i : ℕ) (tint : Tint) → i < count → slice_get tints i ≡ Some tint
+    → IsOwnTint scene setup frame (cell_of edges.xs edges.ys i).x (cell_of edges.xs edges.ys i).y tint

@@ -1,9 +1,10 @@
 // The tints of all cells, frame by frame.
-ghost use Rattle.std.specs.Prelude.{◌+◌, ◌^◌, ◌<◌, ◌≤◌, IfOk, OnOk};
+ghost use Rattle.std.specs.Prelude.{◌≡◌, ◌+◌, ◌^◌, ◌<◌, ◌≤◌, IfOk, OnOk, length, take};
 ghost use Rattle.page_model.specs.ValidScene.{IsValid};
-ghost use Rattle.cell_tints.specs.Tints.{AreTintsOfCells};
+ghost use Rattle.frame_state.specs.States.{AreInSlots, AreOwn, states_as};
+ghost use Rattle.cell_tints.specs.Tints.{AreTintsIn, AreTintsOfCells, cells_of};
 
-use frame_state::{layer_at, states_at};
+use frame_state::{LayerState, layer_at, states_at};
 use page_model::{NoMemory, Scene, Setup, Tint};
 use paint_blend::tint_of;
 use region_split::Cuts;
@@ -11,6 +12,20 @@ use std::alloc::Global;
 
 /// The most layers that a valid scene has.
 const MOST_LAYERS: usize = 65;
+
+/// The states of all layers in a frame, by number, and others behind them.
+fn states_in(scene: &Scene, setup: &Setup, frame: u32) -> [LayerState; MOST_LAYERS]
+    requires valid { IsValid scene.now }
+    ensures room { length scene.now.layers ≤ length result }
+    ensures own { AreOwn scene.now setup.now frame (states_as (take (length scene.now.layers) result)) }
+    ensures ranges { AreInSlots scene.now (states_as (take (length scene.now.layers) result)) }
+{
+    let frame = u64::from(frame);
+    // The body's state stands at each place until the layer's own is written there.
+    let mut all = [layer_at(scene, setup, frame, 0); MOST_LAYERS];
+    states_at(scene, setup, frame, &mut all[..scene.layers.len()]);
+    all
+}
 
 /// Adds the tints of all cells in the frame that is so many after the start.
 fn add_frame(
@@ -26,11 +41,8 @@ fn add_frame(
     requires before { AreTintsOfCells scene.now setup.now cuts.now start k tints.old.items }
     ensures { OnOk result (AreTintsOfCells scene.now setup.now cuts.now start (k + 1) tints.new.items) }
 {
-    let frame = u64::from(start + k);
-    // The body's state stands at each place until the layer's own is written there.
-    let mut all = [layer_at(scene, setup, frame, 0); MOST_LAYERS];
-    let states = &mut all[..scene.layers.len()];
-    states_at(scene, setup, frame, states);
+    let all = states_in(scene, setup, start + k);
+    let states = &all[..scene.layers.len()];
     for i in 0..cuts.cells() {
         let cell = cuts.cell(i);
         tints.push(tint_of(scene, states, cell.x, cell.y))?;
@@ -38,8 +50,22 @@ fn add_frame(
     Ok(())
 }
 
-/// The tints of all cells in so many frames from a start on: frame by frame, and of each frame cell by cell. All memory for them is
-/// taken at once: six bytes for each.
+/// Writes the tints of all cells in a frame, cell by cell. It takes no memory.
+pub fn tints_in_frame(scene: &Scene, setup: &Setup, cuts: &Cuts, frame: u32, tints: &mut [Tint])
+    requires valid { IsValid scene.now }
+    requires all { length tints.old ≡ cells_of cuts.now }
+    ensures { AreTintsIn scene.now setup.now cuts.now frame (cells_of cuts.now) tints.new }
+{
+    let all = states_in(scene, setup, frame);
+    let states = &all[..scene.layers.len()];
+    for i in 0..cuts.cells() {
+        let cell = cuts.cell(i);
+        tints[i as usize] = tint_of(scene, states, cell.x, cell.y);
+    }
+}
+
+/// The tints of all cells in so many frames from a start on: frame by frame, and of each frame cell by cell. All
+/// memory for them is taken at once: six bytes for each.
 ///
 /// # Errors
 ///

@@ -1,5 +1,5 @@
 -- Declarations that are read are those that are spelled.
-use Rattle.std.proofs.Common.{Result, Ok, Err, List, [], ◌∷◌}
+use Rattle.std.proofs.Common.{◌≡◌, ◌⊎◌, inl, inr, refl, Result, Ok, Err, List, [], ◌∷◌}
 use Rattle.page_model.specs.declared.rule.Longhand.{Longhand}
 use Rattle.css_words.specs.declared.fault.ValueFault.{ValueFault}
 use Rattle.css_words.specs.declared.fault.ValueFault.TheVariants.{BadValue, OverLimit, NoMemory}
@@ -13,7 +13,7 @@ use Rattle.css_words.specs.Words.{Word, mapped}
 use Rattle.css_value_laws.specs.SpelledLists.{IsPastList}
 use Rattle.css_declaration_laws.specs.SpelledLonghands.{PastLonghand}
 use Rattle.css_declaration_laws.specs.SpelledShorthand.{PastItem, SpellsItem}
-use Rattle.css_declaration_laws.specs.Spelling.{Answers, Spells, SpellsOne, SpellsPast, SpellsShorthand}
+use Rattle.css_declaration_laws.specs.Spelling.{Answers, Spells, SpellsNone, SpellsOne, SpellsPast, SpellsShorthand}
 use Rattle.css_declaration_laws.proofs.ItemLemmas.{item_closes, item_reads}
 use Rattle.css_value_laws.proofs.ListLemmas.{list_reads}
 use Rattle.css_declaration_laws.proofs.LonghandLemmas.{longhand_reads}
@@ -40,13 +40,30 @@ unfolding declaration_of
 declaration_reads Animation words = shorthand_reads words
 declaration_reads other words = one_reads other words
 
+-- where no value is read, none is spelled
+none_spelled : (property : Property) (words : List Word) → declaration_of property words ≡ Err BadValue → SpellsNone property words
+none_spelled property words bad = record {
+  no_value = λ all s. let e = (declaration_reads property words).ok_from all s in cc;
+  no_past = λ p. let e = (declaration_reads property words).past_from p in cc;
+}
+
+-- one of the three is so
+abbrev IsJudged : Property → List Word → Type 0
+IsJudged property words = ((all : List Longhand) × Spells property words all) ⊎ (SpellsPast property words ⊎ SpellsNone property words)
+
+judged_as : (property : Property) (words : List Word) (read : Result (List Longhand) ValueFault) → declaration_of property words ≡ read → IsJudged property words
+judged_as property words (Ok all) e = inl (all, (declaration_reads property words).ok_to all e)
+judged_as property words (Err OverLimit) e = inr (inl ((declaration_reads property words).past_to e))
+judged_as property words (Err BadValue) e = inr (inr (none_spelled property words e))
+judged_as property words (Err NoMemory) e = absurd ((declaration_reads property words).kept e)
+
+pub declaration_judged : (property : Property) (words : List Word) → IsJudged property words
+declaration_judged property words = judged_as property words (declaration_of property words) refl
+
 -- what a call answers that gives what is read
 pub answers_are : (property : Property) (words : List Word) (result : Result (List Longhand) ValueFault) → Gives result (declaration_of property words)
     → Answers property words result
 answers_are property words (Ok all) gives = (declaration_reads property words).ok_to all gives
 answers_are property words (Err OverLimit) gives = (declaration_reads property words).past_to gives
-answers_are property words (Err BadValue) gives = record {
-  no_value = λ all s. let e = (declaration_reads property words).ok_from all s in cc;
-  no_past = λ p. let e = (declaration_reads property words).past_from p in cc;
-}
+answers_are property words (Err BadValue) gives = none_spelled property words gives
 answers_are property words (Err NoMemory) gives = tt

@@ -1,5 +1,5 @@
 // Properties.
-ghost use Rattle.std.specs.Prelude.{ℕ, List, Result as Outcome, Some, ◌≡◌, ◌↔◌};
+ghost use Rattle.std.specs.Prelude.{ℕ, List, Result as Outcome, Some, ◌≡◌, ◌↔◌, ◌⊎◌};
 ghost use Rattle.page_model.specs.declared.rule.Longhand.{Longhand as Longhands};
 ghost use Rattle.css_words.specs.declared.fault.ValueFault.{ValueFault};
 ghost use Rattle.css_values.specs.declared.types.Property.{Property};
@@ -9,7 +9,7 @@ ghost use Rattle.css_items.specs.Lists.{Gives};
 ghost use Rattle.css_words.specs.Words.{Word};
 ghost use Rattle.css_values.specs.ValueGrammar.{declaration_of, longhand_of};
 ghost use Rattle.css_declaration_laws.specs.SpelledLonghands.{PastLonghand, SpellsLonghand};
-ghost use Rattle.css_declaration_laws.specs.Spelling.{Answers, Spells, SpellsPast};
+ghost use Rattle.css_declaration_laws.specs.Spelling.{Answers, Spells, SpellsNone, SpellsPast};
 ghost use Rattle.css_word_laws.specs.SpelledWords.{IsEntry};
 ghost use Rattle.css_word_laws.specs.ValueLaws.{Agrees};
 
@@ -33,4 +33,10 @@ pub fn declarations_are_spelled()
 pub fn answers_are_spelled()
     ensures { (property : Property) (words : List Word) (result : Outcome (List Longhands) ValueFault)
         → Gives result (declaration_of property words) → Answers property words result }
+{}
+
+/// Whatever words stand in the place of a property's value, they spell one, or one past a limit, or none.
+pub fn every_declaration_is_judged()
+    ensures { (property : Property) (words : List Word)
+        → ((all : List Longhands) × Spells property words all) ⊎ (SpellsPast property words ⊎ SpellsNone property words) }
 {}

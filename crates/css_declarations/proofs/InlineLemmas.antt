@@ -71,7 +71,7 @@ closed_inline : (rest : List CssToken) → is_closed Inline rest ≡ true → re
 closed_inline [] closed = refl
 closed_inline (token ∷ rest) closed = absurd (cc)
 
-all_spelled : (text : List ℕ) (part : Place) (tokens rest : List CssToken) (decls : List Decl) → AreTokens part.to (part_of text part) tokens → AreDeclarations Inline text tokens decls rest
+pub all_spelled : (text : List ℕ) (part : Place) (tokens rest : List CssToken) (decls : List Decl) → AreTokens part.to (part_of text part) tokens → AreDeclarations Inline text tokens decls rest
     → SpellsInline text part decls
 all_spelled text part tokens rest decls is are = record {
   tokens = tokens;

@@ -1,8 +1,12 @@
 pub mod InlineLemmas
+pub mod JudgedLists
 pub mod ListLemmas
 pub mod PairLemmas
 pub mod PlaceLemmas
 pub mod RunLemmas
+pub mod StuckTokens
+pub mod StuckUnits
+pub mod ToldUnits
 pub mod UnitReads
 pub mod UnitTakes
 pub mod ValueLemmas

@@ -18,7 +18,7 @@ mark_shorter : (context : Context) (text : List ℕ) (tokens : List CssToken) (i
 mark_shorter context text tokens important rest (unmarked _ is) = omega arith
 mark_shorter context text tokens important rest (marked bang word _ a b c) = omega arith
 
-unit_shorter : (context : Context) (text : List ℕ) (tokens : List CssToken) (decls : List Decl) (rest : List CssToken) → IsUnit context text tokens decls rest → length rest < length tokens
+pub unit_shorter : (context : Context) (text : List ℕ) (tokens : List CssToken) (decls : List Decl) (rest : List CssToken) → IsUnit context text tokens decls rest → length rest < length tokens
 unit_shorter context text tokens decls rest (semicolon token _ is) = omega arith
 unit_shorter context text tokens decls rest (declaration _ _ _ is) =
     let marked : length rest ≤ length is.behind = mark_shorter context text is.behind is.important rest is.mark in
@@ -40,7 +40,7 @@ joined_more [] decls = append-nil decls
 joined_more (unit ∷ units) decls = ap (λ r. unit ++ r) (joined_more units decls) ∙ sym (append_assoc unit (joined units) decls)
 
 -- one unit more
-one_more : (context : Context) (text : List ℕ) (tokens middle rest : List CssToken) (old new newer decls : List Decl) → AreSoFar context text tokens old new middle
+pub one_more : (context : Context) (text : List ℕ) (tokens middle rest : List CssToken) (old new newer decls : List Decl) → AreSoFar context text tokens old new middle
     → IsUnit context text middle decls rest → newer ≡ new ++ decls → AreSoFar context text tokens old newer rest
 one_more context text tokens middle rest old new newer decls so is e = record {
   units = so.units ++ (decls ∷ []);
@@ -49,7 +49,7 @@ one_more context text tokens middle rest old new newer decls so is e = record {
 }
 
 -- a unit that was read
-read_unit : (context : Context) (text : List ℕ) (end : ℕ) (tokens : List CssToken) (read : Result (List Decl × List CssToken) SheetFault) → is_closed context tokens ≡ false
+pub read_unit : (context : Context) (text : List ℕ) (end : ℕ) (tokens : List CssToken) (read : Result (List Decl × List CssToken) SheetFault) → is_closed context tokens ≡ false
     → unit_at context text end tokens ≡ read → UnitRead context text end tokens read
 read_unit context text end tokens read unclosed e = subst (UnitRead context text end tokens) e (unit_takes context text end tokens unclosed)
 
@@ -71,7 +71,7 @@ closed_here context text end tokens rest old new so closed = record {
   new_is = so.new_is;
 }
 
-faulty : (context : Context) (text : List ℕ) (end : ℕ) (tokens middle : List CssToken) (old new : List Decl) (fault : SheetFault) → AreSoFar context text tokens old new middle
+pub faulty : (context : Context) (text : List ℕ) (end : ℕ) (tokens middle : List CssToken) (old new : List Decl) (fault : SheetFault) → AreSoFar context text tokens old new middle
     → DeclarationFault context text end middle fault → DeclarationsFault context text end tokens fault
 faulty context text end tokens middle old new fault so is = record { units = so.units; rest = middle; before = so.are_units; here = is }
 

@@ -1,6 +1,13 @@
 pub mod FrameLemmas
+pub mod FramesOfBlocks
+pub mod JudgedParts
+pub mod JudgedReadings
+pub mod LastSettings
 pub mod ListedLemmas
 pub mod OffsetLemmas
+pub mod OffsetsOnce
 pub mod ReadingLemmas
 pub mod ReadyFrames
 pub mod SelectorLemmas
+pub mod StuckParts
+pub mod StuckReadings

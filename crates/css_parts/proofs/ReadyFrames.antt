@@ -50,7 +50,7 @@ pairs_kept R p (x ∷ xs) pairs = test (p x) (pairs_kept R p xs pairs.1) where
   test true inner = (each_kept (R x) p xs pairs.0, inner)
   test false inner = inner
 
-not_true : (b : Bool) → not b ≡ true → b ≡ false
+pub not_true : (b : Bool) → not b ≡ true → b ≡ false
 not_true true is = absurd (cc)
 not_true false is = refl
 
@@ -110,21 +110,21 @@ frame_good decls offset ready fits =
     }
 
 -- keyframes in the order of their offsets
-abbrev Below : Keyframe → Keyframe → Type 0
+abbrev pub Below : Keyframe → Keyframe → Type 0
 Below first second = first.offset < second.offset
 
 record AreInOrder (frames : List Keyframe) : Type 0 where
   good : Each IsKeyframe frames
   rising : Pairs Below frames
 
-nat_less : (x y : ℕ) → nat_cmp x y ≡ Less → x < y
+pub nat_less : (x y : ℕ) → nat_cmp x y ≡ Less → x < y
 nat_less x y is = test (nat_lt x y) refl (x == y) is where
   test : (a : Bool) → nat_lt x y ≡ a → (b : Bool) → cond a Less (cond b Equal Greater) ≡ Less → x < y
   test true less b h = ltb-true x y less
   test false less true h = absurd (cc)
   test false less false h = absurd (cc)
 
-nat_greater : (x y : ℕ) → nat_cmp x y ≡ Greater → y < x
+pub nat_greater : (x y : ℕ) → nat_cmp x y ≡ Greater → y < x
 nat_greater x y is = test (nat_lt x y) refl (x == y) refl is where
   test : (a : Bool) → nat_lt x y ≡ a → (b : Bool) → (x == y) ≡ b → cond a Less (cond b Equal Greater) ≡ Greater → y < x
   test true less b same h = absurd (cc)
@@ -139,7 +139,7 @@ each_with P (other ∷ frames) frame each is = by_order (nat_cmp frame.offset ot
   by_order Equal inner = (is, each.1)
   by_order Greater inner = (each.0, inner)
 
-rising_with : (frames : List Keyframe) (frame : Keyframe) → Pairs Below frames → Pairs Below (with_frame frames frame)
+pub rising_with : (frames : List Keyframe) (frame : Keyframe) → Pairs Below frames → Pairs Below (with_frame frames frame)
 rising_with [] frame pairs = (tt, tt)
 rising_with (other ∷ frames) frame pairs = by_order (nat_cmp frame.offset other.offset) refl (rising_with frames frame pairs.1) where
   by_order : (order : Ordering) → nat_cmp frame.offset other.offset ≡ order → Pairs Below (with_frame frames frame)

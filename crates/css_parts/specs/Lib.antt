@@ -1,4 +1,5 @@
 pub mod KeyframeGrammar
+pub mod KeyframesOfBlocks
 pub mod OffsetViews
 pub mod Readings
 pub mod SelectorGrammar

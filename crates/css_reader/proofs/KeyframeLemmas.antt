@@ -1,5 +1,5 @@
 -- Blocks, and sets of keyframes.
-use Rattle.std.proofs.Common.{◌≡◌, ℕ, true, false, List, [], ◌∷◌, ◌++◌, map, Ok, Err, refl, sym, ap, ◌∙◌, subst, append-nil, append_assoc}
+use Rattle.std.proofs.Common.{◌≡◌, ℕ, true, false, List, [], ◌∷◌, ◌++◌, map, Ok, Err, refl, sym, ap, ◌∙◌, subst}
 use Rattle.std.specs.BTreeMap.{BTreeMap}
 use Rattle.std.specs.BTreeSet.{BTreeSet}
 use Rattle.page_model.specs.declared.keyframe.Keyframe.{Keyframe}
@@ -17,6 +17,7 @@ use Rattle.css_parts.specs.Readings.{Exactly, IsPut, Many, Braced, Declares}
 use Rattle.css_parts.specs.Readings.Then.{broken, later, whole}
 use Rattle.css_parts.specs.Readings.Many.{stopped, breaks, more}
 use Rattle.css_parts.proofs.OffsetLemmas.{offset_keeps}
+use Rattle.css_parts.proofs.OffsetsOnce.{given_more}
 use Rattle.css_parts.proofs.ReadingLemmas.{Keeps as KeepsTokens, Leads, listed_keeps, many_keeps, then_keeps, told_as, told_if}
 use Rattle.css_reader.proofs.RuleLemmas.{braced_keeps, declares_keeps}
 
@@ -50,10 +51,6 @@ pub record AreBlocks (text : List ℕ) (end : ℕ) (tokens : List CssToken) (now
 
 pub no_blocks : (text : List ℕ) (end : ℕ) (tokens : List CssToken) (now : BTreeSet ℕ) (kept : BTreeMap ℕ Keyframe) → Holds now [] → Keeps kept [] → AreBlocks text end tokens now kept tokens
 no_blocks text end tokens now kept holds keeps = record { blocks = []; leads = λ outcome reads. reads; holds = holds; keeps = keeps }
-
-given_more : (blocks : List FrameBlock) (block : FrameBlock) → given_in (blocks ++ (block ∷ [])) ≡ given_in blocks ++ block.offsets
-given_more [] block = append-nil block.offsets
-given_more (first ∷ blocks) block = ap (λ g. first.offsets ++ g) (given_more blocks block) ∙ sym (append_assoc first.offsets (given_in blocks) block.offsets)
 
 frames_more : (frames : List Keyframe) (blocks : List FrameBlock) (block : FrameBlock)
     → frames_behind frames (blocks ++ (block ∷ [])) ≡ with_frames (frame_of block.decls) (frames_behind frames blocks) block.offsets

@@ -1,3 +1,4 @@
+pub mod JudgedSheets
 pub mod KeyframeLemmas
 pub mod OneReading
 pub mod OneSheet
@@ -6,3 +7,4 @@ pub mod ReadySets
 pub mod RuleLemmas
 pub mod SheetLemmas
 pub mod SheetReading
+pub mod StuckSheets

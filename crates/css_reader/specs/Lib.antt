@@ -3,3 +3,4 @@ pub mod ReadySheet
 pub mod SheetGrammar
 pub mod SheetState
 pub mod SheetText
+pub mod StuckSheets

@@ -1,11 +1,27 @@
 // The laws of readings.
-ghost use Rattle.std.specs.Prelude.{◌≡◌, List as Items, ℕ, Result as Outcome};
+ghost use Rattle.std.specs.Prelude.{◌≡◌, ◌⊎◌, [], Err, List as Items, ℕ, Result as Outcome};
 ghost use Rattle.page_model.specs.declared.place.Place.{Place as Part};
 ghost use Rattle.css_declarations.specs.declared.fault.SheetFault.{SheetFault};
+ghost use Rattle.css_declarations.specs.declared.fault.SheetFault.TheVariants.{BadSheet, NoMemory};
+ghost use Rattle.style_tokens.specs.declared.token.CssToken.{CssToken};
+ghost use Rattle.css_reader.specs.SheetGrammar.{Items as Spells};
+ghost use Rattle.css_reader.specs.StuckSheets.{IsStuckAt};
 ghost use Rattle.css_reader.specs.SheetState.{SheetState};
 ghost use Rattle.css_reader.specs.SheetText.{IsSheet};
 
 /// A text spells one sheet at most, or has one first fault, and not both.
 pub fn one_sheet_reading()
     ensures { (text : Items ℕ) (part : Part) (outcome other : Outcome SheetState SheetFault) → IsSheet text part outcome → IsSheet text part other → other ≡ outcome }
+{}
+
+/// Every text, whatever its bytes are, spells a sheet or has a first fault, and want of memory is none.
+pub fn every_sheet_is_judged()
+    ensures judged { (text : Items ℕ) (part : Part) → (outcome : Outcome SheetState SheetFault) × IsSheet text part outcome }
+    ensures no_memory { (text : Items ℕ) (part : Part) → IsSheet text part (Err NoMemory) → ⊥ }
+{}
+
+/// A `BadSheet` stands at a token with which, behind those before it, no sheet begins, or at the end of the text.
+pub fn bad_sheets_are_stuck()
+    ensures { (text : Items ℕ) (end : ℕ) (tokens : Items CssToken) (place : ℕ)
+        → Spells text end [] tokens (Err (BadSheet place)) → IsStuckAt text end tokens place ⊎ (place ≡ end) }
 {}

@@ -3,7 +3,8 @@
 //! [`read_sheet`] gives the [`Sheet`] that a style text spells, or the first fault of the text with its place;
 //! [`read_inline`] the declarations of a `style` attribute. Those who load a page stand on both, and the cascade
 //! on the sheet. Their clauses say that what is given is spelled and what is spelled is given, that a fault is
-//! the first one by the order in which a text is judged, and that a text has one reading at most.
+//! the first one by the order in which a text is judged, and that a text has one reading at most; by
+//! [`every_sheet_is_judged`] it has one.
 //!
 //! A sheet is rules and keyframe sets one after the other; what they are made of is read by `css_parts`, and their
 //! declarations by `css_declarations`. The grammar speaks of whole lists of tokens and of what is left of them,
@@ -18,7 +19,7 @@ mod reading;
 mod rules;
 mod sheet;
 
-pub use css_declarations::{SheetFault, one_inline_reading, read_inline};
-pub use laws::one_sheet_reading;
+pub use css_declarations::{SheetFault, every_inline_is_judged, one_inline_reading, read_inline};
+pub use laws::{bad_sheets_are_stuck, every_sheet_is_judged, one_sheet_reading};
 pub use reading::read_sheet;
 pub use sheet::Sheet;

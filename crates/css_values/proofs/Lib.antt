@@ -1,3 +1,5 @@
 pub mod GroupLemmas
+pub mod JudgedLonghands
+pub mod ToldValues
 pub mod ValidLonghands
 pub mod ValidShorthand

@@ -1,3 +1,4 @@
+pub mod JudgedValues
 pub mod PropertyNames
 pub mod ShorthandGrammar
 pub mod ShorthandViews

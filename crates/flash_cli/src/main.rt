@@ -3,10 +3,11 @@
 //!
 //! The words are the arguments after the program's name; where they can't be had as text, no words are
 //! handed on, which are not understood. Files come from the system by name, and the text goes to
-//! standard output, a piece at a time; nothing is written to standard error.
+//! standard output, a piece at a time; nothing is written to standard error. Where memory is refused for the words, that is told
+//! as any other want of memory.
 #![tactic(auto)]
 
-use flash_top::{Status, run};
+use flash_top::{Status, run, tell_no_memory};
 use io_edge::{FileSource, StdoutSink};
 use page_model::NoMemory;
 use std::env::{self, Env};
@@ -14,11 +15,11 @@ use std::io;
 use std::process::ExitCode;
 
 fn main(rt: HostRuntime) -> ExitCode {
+    let mut sink = StdoutSink::new(&rt);
     let Ok(words) = words(&rt) else {
-        return exit_code(Status::NoMemory);
+        return exit_code(tell_no_memory(&mut sink));
     };
     let mut source = FileSource::new(&rt);
-    let mut sink = StdoutSink::new(&rt);
     exit_code(run(rt.alloc(), words.as_slice(), &mut source, &mut sink))
 }
 

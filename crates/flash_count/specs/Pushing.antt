@@ -1,9 +1,9 @@
 -- What a push into a row reckons, whatever tints the row stands for.
-use Rattle.std.specs.Prelude.{ℕ, suc, ◌≡◌, ◌⊎◌, ◌+◌, ◌-◌, ◌<◌, Bool, Some, slice_get, List, [], ◌∷◌, ◌++◌, length, min, slice_index}
+use Rattle.std.specs.Prelude.{ℕ, suc, ◌≡◌, ◌⊎◌, ◌+◌, ◌-◌, ◌<◌, Bool, List, [], ◌∷◌, ◌++◌, length, min, slice_index}
 use Rattle.page_model.specs.declared.colour.Tint.{Tint}
 use Rattle.flash_count.specs.declared.changes.Change.{Change}
 use Rattle.flash_count.specs.Counting.{Makes}
-use Rattle.flash_count.specs.Rows.{EndsBefore, EndsWith, StandsFor, TellsOf, number_of}
+use Rattle.flash_count.specs.Rows.{EndsBefore, EndsWith, StandsFor, TellsOf, number_of, tint_in, words_at}
 use Rattle.flash_count.specs.Starts.{IsLatest}
 
 -- of the eight numbers of a change, each is made no greater than that of a frame so many frames before, with one change more
@@ -32,8 +32,8 @@ TellAfter rate row turn tint words =
     (tints : List Tint) → length tints ≡ turn → StandsFor rate tints row
     → TellsOf rate (tints ++ tint ∷ []) turn (λ i. slice_index words i)
 
--- the next tint is that of the frame before, whatever tints the row stands for, and no change lies between the two
+-- in the row the frame before has the next tint, and no change lies between the two
 pub record IsStill (rate : ℕ) (row : List ℕ) (turn : ℕ) (tint : Tint) : Type 0 where
   pub some : 0 < turn
-  pub before : (tints : List Tint) → length tints ≡ turn → StandsFor rate tints row → slice_get tints (turn - 1) ≡ Some tint
+  pub before : tint_in (words_at rate row (turn - 1) 0) ≡ tint
   pub never : (change : Change) → Makes change tint tint → ⊥

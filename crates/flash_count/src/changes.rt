@@ -20,6 +20,18 @@ pub(crate) enum Change {
     SurelyOutOfRed,
 }
 
+/// All of them, in the order of their words.
+pub(crate) const ALL: [Change; 8] = [
+    Change::PossibleRise,
+    Change::PossibleFall,
+    Change::SureRise,
+    Change::SureFall,
+    Change::PossiblyIntoRed,
+    Change::PossiblyOutOfRed,
+    Change::SurelyIntoRed,
+    Change::SurelyOutOfRed,
+];
+
 /// Two opposing changes, and which of them comes first.
 #[derive(Clone, Copy)]
 pub(crate) struct Opposing {

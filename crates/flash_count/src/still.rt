@@ -1,11 +1,11 @@
 // The words of a frame whose tint is that of the frame before.
-ghost use Rattle.std.specs.Prelude.{ℕ, ◌≡◌, ◌+◌, ◌*◌, ◌<◌, ◌≤◌, IsTrue, length, min};
+ghost use Rattle.std.specs.Prelude.{ℕ, ◌≡◌, ◌+◌, ◌*◌, ◌<◌, ◌≤◌, ◌↔◌, IsTrue, length, min};
 ghost use Rattle.flash_count.specs.declared.changes.Change.{Change};
 ghost use Rattle.flash_count.specs.Counting.{Makes};
 ghost use Rattle.flash_count.specs.Pushing.{IsStill, TellAfter};
 ghost use Rattle.flash_count.specs.Rows.{byte};
 
-use crate::changes::Change;
+use crate::changes::ALL;
 use crate::starts::last_place;
 use crate::words::{bytes_of, first_word, tint_of, word_of};
 use page_model::Tint;
@@ -20,35 +20,19 @@ pub(crate) fn later(number: u8, rate: u16) -> u8
 
 /// Whether no change lies between a tint and itself. It may where the tint is no single colour.
 fn changes_nothing(tint: Tint) -> bool
-    ensures { IsTrue result → ((change : Change) → Makes change tint tint → ⊥) }
+    ensures { IsTrue result ↔ ((change : Change) → Makes change tint tint → ⊥) }
 {
-    if Change::PossibleRise.is_made(tint, tint) {
-        return false;
+    for place in 0..8 {
+        if ALL[place].is_made(tint, tint) {
+            return false;
+        }
     }
-    if Change::PossibleFall.is_made(tint, tint) {
-        return false;
-    }
-    if Change::SureRise.is_made(tint, tint) {
-        return false;
-    }
-    if Change::SureFall.is_made(tint, tint) {
-        return false;
-    }
-    if Change::PossiblyIntoRed.is_made(tint, tint) {
-        return false;
-    }
-    if Change::PossiblyOutOfRed.is_made(tint, tint) {
-        return false;
-    }
-    if Change::SurelyIntoRed.is_made(tint, tint) {
-        return false;
-    }
-    !Change::SurelyOutOfRed.is_made(tint, tint)
+    true
 }
 
 /// Whether two tints are the same.
 fn are_same(a: Tint, b: Tint) -> bool
-    ensures { IsTrue result → a ≡ b }
+    ensures { IsTrue result ↔ (a ≡ b) }
 {
     a == b
 }
@@ -57,7 +41,7 @@ fn are_same(a: Tint, b: Tint) -> bool
 pub(crate) fn is_still(row: &[u64], rate: u16, turn: u32, tint: Tint) -> bool
     requires limit { rate ≤ 240 }
     requires room { 9 * (rate + 1) ≤ length row.now }
-    ensures { IsTrue result → IsStill rate row.now turn tint }
+    ensures { IsTrue result ↔ IsStill rate row.now turn tint }
 {
     if turn == 0 {
         return false;

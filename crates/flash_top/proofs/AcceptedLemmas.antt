@@ -38,7 +38,7 @@ verified_cause : (setup : Viewing) (bytes text : List â„•) (outcome : Outcome) â
 verified_cause setup bytes text WordsRefused h = absurd h
 verified_cause setup bytes text ReadFault h = absurd h
 verified_cause setup bytes text (Refused refusal) h = inr (inl (record { refusal = refusal; cause = h; told = refl }))
-verified_cause setup bytes text (Pass frames) h = absurd h
+verified_cause setup bytes text (Pass frames apart) h = absurd h
 verified_cause setup bytes text (Fail witness) h = absurd h
 verified_cause setup bytes text TooManyFrames h = absurd h
 verified_cause setup bytes text (TooMuchWork cells frames) h = absurd h

@@ -49,7 +49,7 @@ pub verdict_cause : (setup : Viewing) (bytes : List ℕ) (outcome : Outcome) →
 verdict_cause setup bytes WordsRefused h = absurd h
 verdict_cause setup bytes ReadFault h = absurd h
 verdict_cause setup bytes (Refused refusal) h = inr (inl (record { refusal = refusal; cause = h; told = refl }))
-verdict_cause setup bytes (Pass frames) h = inr (inr (record { scene = h.scene; loaded = h.loaded; tells = record { judgement = Passed frames; judged = h.holds; told_is = refl } }))
+verdict_cause setup bytes (Pass frames apart) h = inr (inr (record { scene = h.scene; loaded = h.loaded; tells = record { judgement = Passed frames apart; judged = h.holds; told_is = refl } }))
 verdict_cause setup bytes (Fail witness) h = inr (inr (record { scene = h.scene; loaded = h.loaded; tells = record { judgement = Failed witness; judged = h.holds; told_is = refl } }))
 verdict_cause setup bytes TooManyFrames h = inr (inr (record { scene = h.scene; loaded = h.loaded; tells = record { judgement = Frames; judged = h.holds; told_is = refl } }))
 verdict_cause setup bytes (TooMuchWork cells frames) h = inr (inr (record { scene = h.scene; loaded = h.loaded; tells = record { judgement = Work cells frames; judged = h.holds; told_is = refl } }))
@@ -85,7 +85,7 @@ tint_cause : (setup : Viewing) (spot : Spot) (bytes : List ℕ) (outcome : Outco
 tint_cause setup spot bytes WordsRefused h = absurd h
 tint_cause setup spot bytes ReadFault h = absurd h
 tint_cause setup spot bytes (Refused refusal) h = inr (inl (record { refusal = refusal; cause = h; told = refl }))
-tint_cause setup spot bytes (Pass frames) h = absurd h
+tint_cause setup spot bytes (Pass frames apart) h = absurd h
 tint_cause setup spot bytes (Fail witness) h = absurd h
 tint_cause setup spot bytes TooManyFrames h = absurd h
 tint_cause setup spot bytes (TooMuchWork cells frames) h = absurd h

@@ -23,7 +23,7 @@ use Rattle.flash_top.proofs.AnswerLemmas.{HasCause, TellsJudgement, verdict_caus
 use Rattle.flash_top.proofs.RefusalLemmas.{loaded_once, refused_or_loaded}
 
 decision-told : (judgement : Judgement) → IsPassOrFail judgement → IsDecision (told judgement)
-decision-told (Pass frames) is = tt
+decision-told (Pass frames apart) is = tt
 decision-told (Fail witness) is = tt
 decision-told Frames is = is
 decision-told (Work cells frames) is = is

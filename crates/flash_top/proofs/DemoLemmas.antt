@@ -32,7 +32,7 @@ judged_demo setup number scene judgement loaded is =
 
 -- judgements that are the same answer are told alike
 told_alike : (number : ℕ) (first second : Judgement) → IsSameAnswer first second → AreToldAlike (Shown number first) (Shown number second)
-told_alike number (Passed frames) (Passed others) same = record { text = rw same refl; status = refl }
+told_alike number (Passed frames apart) (Passed others also) same = record { text = rw (same.0, same.1) refl; status = refl }
 told_alike number (Failed w) (Failed other) same = record { text = rw (same.start, same.x, same.y, same.area) refl; status = refl }
 told_alike number Frames Frames same = record { text = refl; status = refl }
 told_alike number (Work cells frames) (Work other_cells others) same = record { text = rw (same.0, same.1) refl; status = refl }

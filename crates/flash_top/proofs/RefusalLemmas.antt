@@ -1,14 +1,16 @@
 -- A fault of the page is a refusal of it, and a page is refused for one cause.
 use Rattle.std.proofs.Common.{◌≡◌, ℕ, ◌<◌, ◌≤◌, ◌⊎◌, inl, inr, List, length, Result, Ok, Err, refl, sym, ap, ◌∙◌, arith}
+use Rattle.std.proofs.lemmas.Bool.{cases_lt}
 use Rattle.page_model.specs.declared.scene.Scene.{Scene}
 use Rattle.page_reader.specs.declared.fault.PageFault.TheVariants as text
 use Rattle.css_declarations.specs.declared.fault.SheetFault.TheVariants as style
 use Rattle.cascade.specs.declared.scene_fault.SceneFault.TheVariants as element
-use Rattle.page_loader.specs.Loading.{IsFirstFault, IsRefused, SpellScene}
+use Rattle.page_loader.specs.Loading.{IsFirstFault, IsLoad, IsRefused, SpellScene}
 use Rattle.page_loader.specs.declared.load_fault.LoadFault.{LoadFault}
 use Rattle.page_loader.specs.declared.load_fault.LoadFault.TheVariants.{Page, Sheet, Scene as NoScene, NoMemory as Unloaded}
+use Rattle.page_loader.proofs.LoadOutcome.{every_loaded}
 use Rattle.page_loader.proofs.OneLoading.{one_load}
-use Rattle.flash_top.specs.Refusals.{Breaks, IsLoadedAs, IsRefusal, page_limit, refused}
+use Rattle.flash_top.specs.Refusals.{Breaks, EveryPageIsLoadedOrRefused, IsLoadedAs, IsRefusal, page_limit, refused}
 use Rattle.flash_top.specs.Steps.{IsUnloaded}
 use Rattle.flash_top.specs.declared.refusal.PageRefusal.{PageRefusal}
 use Rattle.flash_top.specs.declared.refusal.PageRefusal.TheVariants.{TooLong, BadText, TooManyBoxes, BadSheet, UnknownProperty, BadValue, BadKeyframes, OverLimit, NotPlaced, BodyProperty, TooManyAnimations}
@@ -107,3 +109,32 @@ refused_or_loaded bytes refusal scene is has =
 pub loaded_once : (bytes : List ℕ) (scene other : Scene) → IsLoadedAs bytes scene → IsLoadedAs bytes other → other ≡ scene
 loaded_once bytes scene other is also =
     let same : ◌≡◌ {A = Result Scene LoadFault} (Ok other) (Ok scene) = one_load bytes (Ok scene) (Ok other) is.spelled also.spelled in cc
+
+-- the first fault is a cause, since none is want of memory
+caused : (bytes : List ℕ) (fault : LoadFault) → Breaks bytes fault → (refusal : PageRefusal) × IsRefusal bytes refusal
+caused bytes (Page (text.BadText place)) is = (BadText place, is)
+caused bytes (Page text.TooMany) is = (TooManyBoxes, is)
+caused bytes (Page text.NoMemory) is = absurd is.first
+caused bytes (Sheet (style.BadSheet place)) is = (BadSheet place, is)
+caused bytes (Sheet (style.UnknownProperty place)) is = (UnknownProperty place, is)
+caused bytes (Sheet (style.BadValue place)) is = (BadValue place, is)
+caused bytes (Sheet (style.BadKeyframes place)) is = (BadKeyframes place, is)
+caused bytes (Sheet (style.OverLimit place)) is = (OverLimit place, is)
+caused bytes (Sheet style.NoMemory) is = absurd is.first
+caused bytes (NoScene (element.NotPlaced number)) is = (NotPlaced number, is)
+caused bytes (NoScene element.BodyProperty) is = (BodyProperty, is)
+caused bytes (NoScene (element.TooManyAnimations number)) is = (TooManyAnimations number, is)
+caused bytes (NoScene element.NoMemory) is = absurd is.first
+caused bytes Unloaded is = absurd is.first
+
+-- so bytes that aren't too many are loaded, or refused
+by_load : (bytes : List ℕ) (outcome : Result Scene LoadFault) → length bytes ≤ page_limit → IsLoad bytes outcome
+    → ((scene : Scene) × IsLoadedAs bytes scene) ⊎ ((refusal : PageRefusal) × IsRefusal bytes refusal)
+by_load bytes (Ok scene) short is = inl (scene, record { short = short; spelled = is })
+by_load bytes (Err fault) short is = inr (caused bytes fault (record { short = short; first = is }))
+
+pub loaded_or_refused : EveryPageIsLoadedOrRefused
+loaded_or_refused bytes = elim (cases_lt page_limit (length bytes)) [
+  | inl long ↦ inr (TooLong, long)
+  | inr short ↦ let load = every_loaded bytes short in by_load bytes load.0 short load.1
+]

@@ -17,7 +17,7 @@ unloaded_verified setup bytes text outcome (inr is) = subst (IsVerified setup by
 
 pub judged_verdict : (setup : Viewing) (bytes : List ℕ) (scene : Scene) (judgement : Judgement) → IsLoadedAs bytes scene
     → IsJudgement scene setup judgement → IsVerdict setup bytes (told judgement)
-judged_verdict setup bytes scene (Pass frames) loaded is = record { scene = scene; loaded = loaded; holds = is }
+judged_verdict setup bytes scene (Pass frames apart) loaded is = record { scene = scene; loaded = loaded; holds = is }
 judged_verdict setup bytes scene (Fail witness) loaded is = record { scene = scene; loaded = loaded; holds = is }
 judged_verdict setup bytes scene Frames loaded is = record { scene = scene; loaded = loaded; holds = is }
 judged_verdict setup bytes scene (Work cells frames) loaded is = record { scene = scene; loaded = loaded; holds = is }
@@ -26,7 +26,7 @@ judged_verdict setup bytes scene (Enclosure start x y) loaded is = record { scen
 -- and what is told of them is such a judgement of their scene
 pub judged_page : (setup : Viewing) (bytes : List ℕ) (judgement : Judgement) → IsVerdict setup bytes (told judgement)
     → IsPageOf bytes (λ scene. IsJudgement scene setup judgement)
-judged_page setup bytes (Pass frames) is = is
+judged_page setup bytes (Pass frames apart) is = is
 judged_page setup bytes (Fail witness) is = is
 judged_page setup bytes Frames is = is
 judged_page setup bytes (Work cells frames) is = is

@@ -22,7 +22,7 @@ pub record IsClearPage (setup : Viewing) (bytes : List ℕ) : Type 0 where
 
 -- an answer is pass or fail, or memory was refused
 abbrev pub IsDecision : Outcome → Type 0
-IsDecision (Pass frames) = Unit {0}
+IsDecision (Pass frames apart) = Unit {0}
 IsDecision (Fail witness) = Unit {0}
 IsDecision NoMemory = Unit {0}
 IsDecision other = ⊥

@@ -1,5 +1,5 @@
 -- Why a page is refused: by its length first, then by its first fault. A page that is refused for nothing is loaded.
-use Rattle.std.specs.Prelude.{ℕ, ◌<◌, ◌≤◌, List, length}
+use Rattle.std.specs.Prelude.{ℕ, ◌<◌, ◌≤◌, ◌⊎◌, List, length}
 use Rattle.page_model.specs.declared.scene.Scene.{Scene}
 use Rattle.page_reader.specs.declared.fault.PageFault.TheVariants as text
 use Rattle.css_declarations.specs.declared.fault.SheetFault.TheVariants as style
@@ -39,6 +39,11 @@ IsRefusal bytes (TooManyAnimations number) = Breaks bytes (NoScene (element.TooM
 pub record IsLoadedAs (bytes : List ℕ) (scene : Scene) : Type 0 where
   pub short : length bytes ≤ page_limit
   pub spelled : SpellScene bytes scene
+
+-- the bytes of each page come to a scene, or to a refusal
+abbrev pub EveryPageIsLoadedOrRefused : Type 0
+EveryPageIsLoadedOrRefused =
+    (bytes : List ℕ) → ((scene : Scene) × IsLoadedAs bytes scene) ⊎ ((refusal : PageRefusal) × IsRefusal bytes refusal)
 
 -- a fault as it is told
 abbrev pub refused : LoadFault → Outcome

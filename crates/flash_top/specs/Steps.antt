@@ -28,7 +28,7 @@ IsUnknown bytes outcome = (outcome ≡ NoMemory) ⊎ IsToldUnknown bytes outcome
 
 -- a judgement as it is told
 abbrev pub told : Judgement → Outcome
-told (Passed frames) = Pass frames
+told (Passed frames apart) = Pass frames apart
 told (Failed witness) = Fail witness
 told Frames = TooManyFrames
 told (Work cells frames) = TooMuchWork cells frames

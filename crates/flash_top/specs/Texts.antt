@@ -1,5 +1,5 @@
 -- What is written for each outcome, and the status that the run ends with.
-use Rattle.std.specs.Prelude.{ℕ, ℤ, ◌≡◌, ◌⊎◌, List, [], ◌∷◌, ◌++◌, codes, decimal, if◌then◌else◌}
+use Rattle.std.specs.Prelude.{ℕ, ℤ, Bool, true, false, ◌≡◌, ◌⊎◌, List, [], ◌∷◌, ◌++◌, codes, decimal, if◌then◌else◌}
 use Rattle.std.specs.Fmt.{signed_decimal}
 use Rattle.witness_checks.specs.Faults.{condition_of}
 use Rattle.flash_top.specs.declared.outcome.Outcome.{Outcome}
@@ -43,9 +43,10 @@ light_line light =
     codes "lin " ++ (decimal light.red ++ 32 ∷ (decimal light.green ++ 32 ∷ (decimal light.blue ++ (codes ", luma " ++ (decimal light.luma
     ++ (if light.saturated then codes ", red yes" else codes ", red no"))))))
 
--- the lines for a page that is judged without a witness
-abbrev pub pass_line : ℕ → List ℕ
-pass_line frames = codes "pass: frames " ++ decimal frames
+-- the lines for a page that is judged without a witness; a pass tells where each region was judged by itself
+abbrev pub pass_line : ℕ → Bool → List ℕ
+pass_line frames false = codes "pass: frames " ++ decimal frames
+pass_line frames true = codes "pass: frames " ++ (decimal frames ++ codes ", regions apart")
 
 abbrev pub frames_line : List ℕ
 frames_line = codes "undecided: more than 100000 frames"
@@ -65,7 +66,7 @@ fail_line witness =
 
 -- the line that sums up what a page comes to
 abbrev pub summary_line : Judgement → List ℕ
-summary_line (Passed frames) = pass_line frames
+summary_line (Passed frames apart) = pass_line frames apart
 summary_line (Failed witness) = fail_line witness
 summary_line Frames = frames_line
 summary_line (Work cells frames) = work_line cells frames
@@ -80,7 +81,7 @@ abbrev pub line_of : Outcome → List ℕ
 line_of WordsRefused = codes "words: not understood"
 line_of ReadFault = codes "cannot read"
 line_of (Refused refusal) = refusal_line refusal
-line_of (Pass frames) = pass_line frames
+line_of (Pass frames apart) = pass_line frames apart
 line_of (Fail witness) = witness_text witness
 line_of TooManyFrames = frames_line
 line_of (TooMuchWork cells frames) = work_line cells frames
@@ -102,7 +103,7 @@ abbrev pub status_of : Outcome → Status
 status_of WordsRefused = status.Words
 status_of ReadFault = status.ReadFault
 status_of (Refused refusal) = status.Page
-status_of (Pass frames) = status.Pass
+status_of (Pass frames apart) = status.Pass
 status_of (Fail witness) = status.Bad
 status_of TooManyFrames = status.Undecided
 status_of (TooMuchWork cells frames) = status.Undecided
@@ -134,7 +135,7 @@ abbrev pub HasOwnText : Outcome → Type 0
 HasOwnText WordsRefused = ⊥
 HasOwnText ReadFault = ⊥
 HasOwnText (Refused refusal) = HasOwnLine refusal
-HasOwnText (Pass frames) = Unit {0}
+HasOwnText (Pass frames apart) = Unit {0}
 HasOwnText (Fail witness) = Unit {0}
 HasOwnText TooManyFrames = ⊥
 HasOwnText (TooMuchWork cells frames) = Unit {0}

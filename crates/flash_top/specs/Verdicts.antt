@@ -12,7 +12,7 @@ use Rattle.flash_laws.specs.SureLaws.{IsOf}
 use Rattle.frame_state.specs.Scenes.{is_cubic}
 use Rattle.frame_state.specs.States.{AreOwn}
 use Rattle.paint_blend.specs.Paint.{AreStates}
-use Rattle.page_judge.specs.Judgement.{IsEnclosed, IsFail, IsPass, IsPastFrames, IsPastWork}
+use Rattle.page_judge.specs.Judgement.{IsEnclosed, IsFail, IsPassBy, IsPastFrames, IsPastWork}
 use Rattle.witness_laws.specs.Acceptance.{IsAccepted}
 use Rattle.witness_checks.specs.Faults.{IsFirstFault}
 use Rattle.witness_text.specs.WitnessForm.{IsTextOf}
@@ -33,7 +33,7 @@ abbrev pub IsVerdict : Viewing → List ℕ → Outcome → Type 0
 IsVerdict setup bytes WordsRefused = ⊥
 IsVerdict setup bytes ReadFault = ⊥
 IsVerdict setup bytes (Refused refusal) = IsRefusal bytes refusal
-IsVerdict setup bytes (Pass frames) = IsPageOf bytes (λ scene. IsPass scene setup frames)
+IsVerdict setup bytes (Pass frames apart) = IsPageOf bytes (λ scene. IsPassBy scene setup frames apart)
 IsVerdict setup bytes (Fail witness) = IsPageOf bytes (λ scene. IsFail scene setup witness)
 IsVerdict setup bytes TooManyFrames = IsPageOf bytes (λ scene. IsPastFrames scene setup)
 IsVerdict setup bytes (TooMuchWork cells frames) = IsPageOf bytes (λ scene. IsPastWork scene setup cells frames)
@@ -77,7 +77,7 @@ abbrev pub IsVerified : Viewing → List ℕ → List ℕ → Outcome → Type 0
 IsVerified setup bytes text WordsRefused = ⊥
 IsVerified setup bytes text ReadFault = ⊥
 IsVerified setup bytes text (Refused refusal) = IsRefusal bytes refusal
-IsVerified setup bytes text (Pass frames) = ⊥
+IsVerified setup bytes text (Pass frames apart) = ⊥
 IsVerified setup bytes text (Fail witness) = ⊥
 IsVerified setup bytes text TooManyFrames = ⊥
 IsVerified setup bytes text (TooMuchWork cells frames) = ⊥
@@ -105,7 +105,7 @@ abbrev pub IsTinted : Viewing → Spot → List ℕ → Outcome → Type 0
 IsTinted setup spot bytes WordsRefused = ⊥
 IsTinted setup spot bytes ReadFault = ⊥
 IsTinted setup spot bytes (Refused refusal) = IsRefusal bytes refusal
-IsTinted setup spot bytes (Pass frames) = ⊥
+IsTinted setup spot bytes (Pass frames apart) = ⊥
 IsTinted setup spot bytes (Fail witness) = ⊥
 IsTinted setup spot bytes TooManyFrames = ⊥
 IsTinted setup spot bytes (TooMuchWork cells frames) = ⊥

@@ -41,7 +41,7 @@ fn told(judgement: Judgement) -> Outcome
     ensures { result ≡ told judgement }
 {
     match judgement {
-        Judgement::Pass { frames } => Outcome::Pass { frames },
+        Judgement::Pass { frames, apart } => Outcome::Pass { frames, apart },
         Judgement::Fail(witness) => Outcome::Fail(witness),
         Judgement::Frames => Outcome::TooManyFrames,
         Judgement::Work { cells, frames } => Outcome::TooMuchWork { cells, frames },

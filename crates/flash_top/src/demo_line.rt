@@ -2,7 +2,7 @@
 ghost use Rattle.std.specs.Prelude.{◌≡◌, IfOk, string_bytes};
 ghost use Rattle.flash_top.specs.Texts.{demo_lines, fail_line, summary_line};
 
-use crate::telling::{window_line, work_line};
+use crate::telling::{pass_line, window_line, work_line};
 use page_judge::Judgement;
 use page_model::{NoMemory, Witness};
 use std::alloc::Global;
@@ -24,7 +24,7 @@ fn summary_line(alloc: Global, judgement: &Judgement) -> Result<String, NoMemory
     ensures { IfOk result (λ text. string_bytes text ≡ summary_line judgement.now) }
 {
     match judgement {
-        Judgement::Pass { frames } => Ok(format!(in alloc; "pass: frames {frames}")?),
+        Judgement::Pass { frames, apart } => pass_line(alloc, *frames, *apart),
         Judgement::Fail(witness) => fail_line(alloc, witness),
         Judgement::Frames => Ok(String::from_str(alloc, "undecided: more than 100000 frames")?),
         Judgement::Work { cells, frames } => work_line(alloc, *cells, *frames),

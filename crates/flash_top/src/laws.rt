@@ -2,7 +2,7 @@
 ghost use Rattle.std.specs.Prelude.{ℕ, ◌≡◌, List, map, string_bytes};
 ghost use Rattle.page_model.specs.declared.scene.Scene.{Scene as Loaded};
 ghost use Rattle.flash_top.specs.Clear.{CheckDecides, ClearPagesAreDecided};
-ghost use Rattle.flash_top.specs.Refusals.{IsLoadedAs, IsRefusal};
+ghost use Rattle.flash_top.specs.Refusals.{EveryPageIsLoadedOrRefused, IsLoadedAs, IsRefusal};
 ghost use Rattle.flash_top.specs.SameAnswers.{OneDemo, OneLight, OneTint, OneVerdict, OneVerified, ToldWitnessIsAccepted};
 ghost use Rattle.flash_top.specs.declared.refusal.PageRefusal.{PageRefusal as Refusal};
 
@@ -12,6 +12,11 @@ use flash_words::command;
 pub fn one_refusal()
     ensures one { (bytes : List ℕ) (refusal other : Refusal) → IsRefusal bytes refusal → IsRefusal bytes other → other ≡ refusal }
     ensures apart { (bytes : List ℕ) (refusal : Refusal) (scene : Loaded) → IsRefusal bytes refusal → IsLoadedAs bytes scene → ⊥ }
+{}
+
+/// The bytes of each page are loaded, or refused for a cause: none is left without an answer.
+pub fn every_page_is_loaded_or_refused()
+    ensures { EveryPageIsLoadedOrRefused }
 {}
 
 /// The answers of each command exclude each other, want of memory apart. Of two witnesses of a page that fails, both tell the same

@@ -9,7 +9,7 @@
 //! `checking` has the scene judged, `verifying` has a witness of it tested, `tinting` paints a pixel, `lighting` tells how light
 //! a colour is, `showing` has a page judged that is made from a number, and `telling` makes the text and writes it. `Verdicts` in
 //! `specs/` is the table of causes: it speaks of scenes, judgements and witnesses, and the crates below say what these are;
-//! `Lighting` and `Demos` have those of the commands that name no file. A page is refused for one cause ([`one_refusal`]), the
+//! `Lighting` and `Demos` have those of the commands that name no file. A page is loaded or refused ([`every_page_is_loaded_or_refused`]), for one cause ([`one_refusal`]), the
 //! answers exclude each other ([`one_answer`]), and what `check` tells of a page that fails is accepted by `verify`
 //! ([`told_witness_is_accepted`]). A page that stands clear of the thresholds is passed or failed
 //! ([`clear_pages_are_decided`], [`check_decides`]).
@@ -39,10 +39,11 @@ mod verifying;
 
 pub use flash_words::{Command, WordsFault, command};
 pub use laws::{
-    check_decides, clear_pages_are_decided, one_answer, one_refusal, told_witness_is_accepted,
+    check_decides, clear_pages_are_decided, every_page_is_loaded_or_refused, one_answer,
+    one_refusal, told_witness_is_accepted,
 };
 pub use outcome::{Light, Outcome};
 pub use page_loader::{LoadFault, load};
 pub use refusal::PageRefusal;
-pub use running::run;
+pub use running::{run, tell_no_memory};
 pub use status::Status;

@@ -4,6 +4,7 @@ ghost use Rattle.flash_top.specs.Outcomes.{IsOutcome, MayOpenFiles};
 ghost use Rattle.flash_top.specs.Telling.{Tells};
 ghost use Rattle.flash_top.specs.Texts.{CanBeTold, HasOwnText, IsToldFor, status_of, text_of};
 ghost use Rattle.flash_top.specs.declared.outcome.Outcome.{Outcome as Found};
+ghost use Rattle.flash_top.specs.declared.outcome.Outcome.TheVariants.{NoMemory as MemoryRefused};
 
 use crate::obeying::outcome_of;
 use crate::outcome::Outcome;
@@ -60,6 +61,20 @@ fn tell_own<K: Sink>(alloc: Global, outcome: &Outcome, sink: &mut K) -> Status
 {
     match own_text(alloc, outcome) {
         Ok(text) => tell(sink, text.as_slice(), status(outcome)),
-        Err(NoMemory) => tell(sink, b"no memory\n".as_slice(), Status::NoMemory),
+        Err(NoMemory) => tell_no_memory(sink),
     }
+}
+
+/// Writes that memory was refused, which takes none. So a caller tells it whom memory was refused before there was anything to
+/// run, such as for the words.
+pub fn tell_no_memory<K: Sink>(sink: &mut K) -> Status
+    ensures { Tells (record {
+      old = K.contents sink.old;
+      new = K.contents sink.new;
+      faults_before = K.faults sink.old;
+      faults_after = K.faults sink.new;
+    })
+        (text_of MemoryRefused) (status_of MemoryRefused) result }
+{
+    tell(sink, b"no memory\n".as_slice(), Status::NoMemory)
 }

@@ -1,7 +1,7 @@
 // The text and the status of an outcome, and how they are told.
 ghost use Rattle.std.specs.Prelude.{◌≡◌, ◌++◌, ◌∷◌, [], IfOk, MatchOption, string_bytes};
 ghost use Rattle.flash_top.specs.Telling.{Tells};
-ghost use Rattle.flash_top.specs.declared.outcome.Outcome.TheVariants.{Accepted, Enclosed, TooMuchWork, Unaccepted};
+ghost use Rattle.flash_top.specs.declared.outcome.Outcome.TheVariants.{Accepted, Enclosed, Pass, TooMuchWork, Unaccepted};
 ghost use Rattle.flash_top.specs.Texts.{CanBeTold, HasOwnLine, HasOwnText, line_of, refusal_line, status_of, text_of};
 
 use crate::demo_line::demo_lines;
@@ -76,6 +76,16 @@ fn own_line(alloc: Global, refusal: &PageRefusal) -> Result<String, NoMemory>
     })
 }
 
+/// The line of a page that passes, which tells where each region was judged by itself.
+pub(crate) fn pass_line(alloc: Global, frames: u32, apart: bool) -> Result<String, NoMemory>
+    ensures { IfOk result (λ text. string_bytes text ≡ line_of (Pass frames apart)) }
+{
+    if apart {
+        return Ok(format!(in alloc; "pass: frames {frames}, regions apart")?);
+    }
+    Ok(format!(in alloc; "pass: frames {frames}")?)
+}
+
 /// The line of too many cells in the frames that would have to be looked at.
 pub(crate) fn work_line(alloc: Global, cells: u32, frames: u32) -> Result<String, NoMemory>
     ensures { IfOk result (λ text. string_bytes text ≡ line_of (TooMuchWork cells frames)) }
@@ -136,7 +146,7 @@ pub(crate) fn own_text(alloc: Global, outcome: &Outcome) -> Result<Vec<u8>, NoMe
 {
     let mut text = match outcome {
         Outcome::Refused(refusal) => own_line(alloc, refusal)?.into_bytes(),
-        Outcome::Pass { frames } => format!(in alloc; "pass: frames {frames}")?.into_bytes(),
+        Outcome::Pass { frames, apart } => pass_line(alloc, *frames, *apart)?.into_bytes(),
         Outcome::Fail(witness) => to_text(alloc, witness)?,
         Outcome::TooMuchWork { cells, frames } => work_line(alloc, *cells, *frames)?.into_bytes(),
         Outcome::Enclosed { start, x, y } => window_line(alloc, *start, *x, *y)?.into_bytes(),

@@ -1,8 +1,7 @@
 -- The way of a property by one more animation.
-use Rattle.std.proofs.Common.{◌≡◌, ◌⊎◌, inl, inr, ℕ, ◌+◌, ◌-◌, ◌<◌, suc, List, [], ◌∷◌, ◌++◌, Option, Some, None, filter_map, length, get_or, slice_get, take, option_map, add-one, append-nil, arith, refl, sym, ap, ◌∙◌}
+use Rattle.std.proofs.Common.{◌≡◌, ◌⊎◌, Bool, true, false, not, is_some, ◌&&◌, inl, inr, ℕ, ◌+◌, ◌-◌, ◌<◌, suc, List, [], ◌∷◌, ◌++◌, Option, Some, None, filter_map, length, get_or, slice_get, take, option_map, add-one, append-nil, arith, refl, sym, ap, ◌∙◌}
 use Rattle.std.specs.List.{cons_option}
 use Rattle.std.proofs.lemmas.List.Elements.{filter_map-append}
-use Rattle.std.proofs.lemmas.Option.{slice_get-get_or}
 use Rattle.std.proofs.Math.Seq.{take-suc}
 use Rattle.page_model.specs.declared.animation.Anim.{Anim}
 use Rattle.page_model.specs.declared.keyframe.KeyframeSet.{KeyframeSet}
@@ -12,7 +11,7 @@ use Rattle.page_model.specs.declared.scene.Layer.{Layer}
 use Rattle.page_model.specs.declared.scene.Scene.{Scene}
 use Rattle.page_model.specs.declared.setup.Setup.{Setup}
 use Rattle.page_model.specs.Fraction.{Fraction}
-use Rattle.page_model.specs.Keyframes.{Interval, last_of}
+use Rattle.page_model.specs.Keyframes.{Interval, last_of, names}
 use Rattle.page_model.specs.LayerAt.{declared, interval_at}
 use Rattle.page_model.specs.Progress.{progress_of}
 use Rattle.fix_span.specs.declared.frac.Frac.{Frac}
@@ -83,7 +82,7 @@ IsLast scene setup frame layer anims place prop found =
     later (last_way scene setup frame layer (take place anims) prop) found ≡ last_way scene setup frame layer anims prop
 
 -- one animation before, without an effect or with one
-way-before : (scene : Scene) (setup : Setup) (frame place left : ℕ) (layer : Layer) (anims : List Anim) (d : Anim) (prop : Prop)
+pub way-before : (scene : Scene) (setup : Setup) (frame place left : ℕ) (layer : Layer) (anims : List Anim) (d : Anim) (prop : Prop)
     (found : Option Way) → place < length anims → left ≡ place + 1 → IsLast scene setup frame layer anims left prop found
     → IsLast scene setup frame layer anims place prop
     (later (option_map eased_way (interval_at scene.sets setup frame prop (declared layer prop) (get_or anims place d))) found)
@@ -96,32 +95,38 @@ way-before scene setup frame place left layer anims d prop found inside next is 
     ∙ last_way-more scene setup frame layer (take place anims) anim prop))
     ∙ is
 
-pub way-none : (scene : Scene) (setup : Setup) (frame place left : ℕ) (layer : Layer) (anims : List Anim) (d : Anim) (prop : Prop) (found : Option Way)
-    → place < length anims → left ≡ place + 1 → None ≡ option_map frac_of (progress_of setup (get_or anims place d) frame)
-    → IsLast scene setup frame layer anims left prop found → IsLast scene setup frame layer anims place prop found
-way-none scene setup frame place left layer anims d prop found inside next none is =
-    let anim : Anim = get_or anims place d in
-    ap (λ (way : Option Way). later (last_way scene setup frame layer (take place anims) prop) way)
-    (sym (ap (λ (o : Option Interval). later (option_map eased_way o) found)
-    (interval_at-none scene.sets setup frame prop (declared layer prop) anim (mapped_none (progress_of setup anim frame) none)) ∙ later_none found))
-    ∙ way-before scene setup frame place left layer anims d prop found inside next is
-  where
-    mapped_none : (o : Option Fraction) → None ≡ option_map frac_of o → o ≡ None
-    mapped_none None e = refl
-    mapped_none (Some x) e = absurd (cc)
+-- an animation that gives nothing new: it doesn't name the property, or a later one gave it a way
+unnamed-at : (sets : List KeyframeSet) (setup : Setup) (frame : ℕ) (prop : Prop) (own : Value) (anim : Anim)
+    → ((set : KeyframeSet) → slice_get sets anim.set ≡ Some set → names prop set.frames ≡ false)
+    → interval_at sets setup frame prop own anim ≡ None
+unnamed-at sets setup frame prop own anim unnamed =
+    elim (cases_Option (slice_get sets anim.set)) [
+      | inl none ↦ rw none refl
+      | inr set ↦
+          let none = unnamed set.0 set.1 in
+          elim (cases_Option (progress_of setup anim frame)) [
+            | inl away ↦ rw (set.1, away) refl
+            | inr at ↦ rw (set.1, at.1, none) refl
+          ]
+    ]
 
-pub way-some : (scene : Scene) (setup : Setup) (frame number place left : ℕ) (layer : Layer) (anims : List Anim) (d : Anim) (prop : Prop) (at : Frac)
-    (found more : Option Way) → place < length anims → left ≡ place + 1 → slice_get scene.layers number ≡ Some layer → layer.anims ≡ anims
-    → Some at ≡ option_map frac_of (progress_of setup (get_or anims place d) frame)
-    → IsLast scene setup frame layer anims left prop found
+pub nothing-new : (sets : List KeyframeSet) (setup : Setup) (frame : ℕ) (prop : Prop) (own : Value) (anim : Anim) (named : Bool) (found : Option Way)
+    → (named && not (is_some found)) ≡ false
+    → (named ≡ false → (set : KeyframeSet) → slice_get sets anim.set ≡ Some set → names prop set.frames ≡ false)
+    → found ≡ later (option_map eased_way (interval_at sets setup frame prop own anim)) found
+nothing-new sets setup frame prop own anim true None e unnamed = absurd (cc)
+nothing-new sets setup frame prop own anim true (Some way) e unnamed = refl
+nothing-new sets setup frame prop own anim false found e unnamed =
+    sym (ap (λ (o : Option Interval). later (option_map eased_way o) found) (unnamed-at sets setup frame prop own anim (unnamed refl)) ∙ later_none found)
+
+-- one with an effect
+pub way-made : (scene : Scene) (setup : Setup) (frame number place : ℕ) (layer : Layer) (anim : Anim) (prop : Prop) (at : Frac)
+    (found more : Option Way) → slice_get scene.layers number ≡ Some layer → slice_get layer.anims place ≡ Some anim
+    → Some at ≡ option_map frac_of (progress_of setup anim frame)
     → more ≡ later (option_map eased_way (interval_here scene number place prop (fraction_of at))) found
-    → IsLast scene setup frame layer anims place prop more
-way-some scene setup frame number place left layer anims d prop at found more inside next layer_is own some is e =
-    let anim : Anim = get_or anims place d in
+    → more ≡ later (option_map eased_way (interval_at scene.sets setup frame prop (declared layer prop) anim)) found
+way-made scene setup frame number place layer anim prop at found more layer_is anim_is some e =
     let mapped = mapped_some frac_of (progress_of setup anim frame) at (sym some) in
     let at_is : progress_of setup anim frame ≡ Some (fraction_of at) = mapped.1 ∙ ap (λ (y : Frac). Some (fraction_of y)) mapped.2 in
-    let anim_is : slice_get layer.anims place ≡ Some anim = ap (λ (xs : List Anim). slice_get xs place) own ∙ slice_get-get_or anims place d inside in
-    ap (λ (way : Option Way). later (last_way scene setup frame layer (take place anims) prop) way)
-    (e ∙ ap (λ (o : Option Interval). later (option_map eased_way o) found)
-    (sym (interval_at-some scene setup frame number place layer anim prop (fraction_of at) layer_is anim_is at_is)))
-    ∙ way-before scene setup frame place left layer anims d prop found inside next is
+    e ∙ ap (λ (o : Option Interval). later (option_map eased_way o) found)
+    (sym (interval_at-some scene setup frame number place layer anim prop (fraction_of at) layer_is anim_is at_is))

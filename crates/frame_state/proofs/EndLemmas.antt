@@ -13,17 +13,8 @@ use Rattle.fraction_laws.specs.FractionLaws.{IsPart}
 use Rattle.fraction_laws.proofs.FractionLemmas.{stepped-part}
 use Rattle.easing_bounds.specs.Value.{eased_value}
 use Rattle.easing_bounds.proofs.ToldLemmas.{told-end}
-use Rattle.frame_state.specs.Ways.{End, greatest_of, least_of}
-
--- a times an end is b or more
-abbrev pub EndReaches : End → ℤ → ℤ → Type 0
-EndReaches x a b = (b *ℤ pos x.den) ≤ℤ (a *ℤ x.num)
-
-pub record AreEnds (easing : Easing) (at : Fraction) (least greatest : End) : Type 0 where
-  pub some_least : 0 < least.den
-  pub some_greatest : 0 < greatest.den
-  pub all : (a b : ℤ) → AllReach own easing at a b ↔ (EndReaches least a b × EndReaches greatest a b)
-  pub some : (a b : ℤ) → SomeReach own easing at a b ↔ (EndReaches least a b ⊎ EndReaches greatest a b)
+use Rattle.frame_state.specs.Ways.{greatest_of, least_of}
+use Rattle.slot_values.specs.Ends.{AreEnds, End}
 
 -- one end that is the value
 abbrev pub fraction_end : Fraction → End

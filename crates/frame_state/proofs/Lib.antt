@@ -1,12 +1,8 @@
-pub mod ChannelLemmas
 pub mod CourseLemmas
 pub mod EndLemmas
 pub mod ListLemmas
-pub mod MixLemmas
 pub mod NamedLemmas
 pub mod PlainLemmas
-pub mod RangeLemmas
-pub mod RoundingLemmas
+pub mod ShownLemmas
 pub mod StateLemmas
-pub mod StillLemmas
 pub mod ValueLemmas

@@ -1,6 +1,6 @@
 -- The state of a layer by the ways of its properties: it is the own kind's, in the ranges of its slots, and the exact one where no
 -- easing is a curve.
-use Rattle.std.proofs.Common.{◌≡◌, ◌⊎◌, ℕ, ◌<◌, ◌-◌, ℤ, pos, ◌≤ℤ◌, Bool, true, false, List, Option, Some, None, filter_map, get_or, length, slice_get, option_map, if◌then◌else◌, arith, refl, sym, ap, ◌∙◌, subst, inl, inr}
+use Rattle.std.proofs.Common.{◌≡◌, ◌⊎◌, ℕ, ◌<◌, ◌-◌, ℤ, pos, ◌≤ℤ◌, Bool, true, false, List, Option, Some, None, filter_map, get_or, length, min, slice_get, option_map, if◌then◌else◌, arith, refl, sym, ap, ◌∙◌, subst, inl, inr}
 use Rattle.std.proofs.lemmas.Int.{ints, clamps}
 use Rattle.std.proofs.lemmas.Option.{get_or_from_slice_get, slice_get-get_or}
 use Rattle.page_model.specs.declared.animation.Anim.{Anim}
@@ -26,15 +26,19 @@ use Rattle.curve_laws.specs.SlotLaws.{Agrees, IsWithin}
 use Rattle.tint_laws.specs.TintLaws.{StateWithin}
 use Rattle.easing_bounds.specs.Value.{eased_value, is_cubic as is_curve}
 use Rattle.keyframe_sets.specs.Here.{interval_here}
+use Rattle.slot_values.specs.Channels.{channel_left, eight_bits, is_gone_at, level_at}
+use Rattle.slot_values.specs.Ends.{AreEnds, End, nothing_made}
+use Rattle.slot_values.specs.Slots.{IsInSlot, loose_of, value_at}
 use Rattle.frame_state.specs.declared.way.Ways.{Ways}
 use Rattle.frame_state.specs.Scenes.{is_cubic}
-use Rattle.frame_state.specs.States.{IsInSlot, IsInSlots, eight_bits, known, state_by, sure_of, sure_with}
-use Rattle.frame_state.specs.Ways.{AreWays, End, Way, channel_by, channel_left, chosen, eased_way, greatest_of, hides_at, is_gone_at, least_of, level_at, level_by, loose_of, nothing_made, shown_by, unless_hidden, value_at, value_by, way_in, way_of}
-use Rattle.frame_state.proofs.ChannelLemmas.{level-small, loose_channel-is}
+use Rattle.frame_state.specs.States.{IsInSlots, known, state_by, sure_of, sure_with}
+use Rattle.frame_state.specs.Ways.{AreWays, Way, channel_by, chosen, eased_way, greatest_of, hides_at, least_of, level_by, shown_by, unless_hidden, value_by, way_in, way_of}
+use Rattle.slot_values.proofs.ChannelLemmas.{channel-small, loose_channel-is}
 use Rattle.frame_state.proofs.CourseLemmas.{cases_Option, interval_at-none, interval_at-some}
-use Rattle.frame_state.proofs.EndLemmas.{AreEnds, ends-are}
+use Rattle.frame_state.proofs.EndLemmas.{ends-are}
 use Rattle.frame_state.proofs.PlainLemmas.{All-filter_map, All-slice_get, interval-limits, interval-part, interval-straight}
-use Rattle.frame_state.proofs.RoundingLemmas.{in_slot, loose-is, shown-is}
+use Rattle.slot_values.proofs.RoundingLemmas.{in_slot, loose-is}
+use Rattle.frame_state.proofs.ShownLemmas.{shown-is}
 
 -- the way by what was found is that of the course
 chosen-is : (held : Bool) (base : Value) (found : Option Interval)
@@ -74,11 +78,18 @@ read-is layers xs number layer element read same is =
     read ∙ ap (λ (ys : List Layer). get_or ys number element) same ∙ get_or_from_slice_get layers number layer element is
 
 -- the ranges
+level-small : (from to : Shade) (least greatest : End) (moves : Bool) → IsInSlot eight_bits (level_by from to least greatest moves)
+level-small from to least greatest false = own-small from.level
+  where
+    own-small : (n : ℕ) → IsInSlot eight_bits (one_value (pos (min n 255)))
+    own-small n = record { at_least = omega (arith, ints); in_order = omega (arith, ints); at_most = omega (arith, ints) }
+level-small from to least greatest true = channel-small from to least greatest
+
 pub state_by-in_slots : (layer : Layer) (way : Prop → Way) → IsInSlots (state_by layer way)
 state_by-in_slots layer way = record {
-  red = channel-small red_of (way Background);
-  green = channel-small green_of (way Background);
-  blue = channel-small blue_of (way Background);
+  red = channel-in red_of (way Background);
+  green = channel-in green_of (way Background);
+  blue = channel-in blue_of (way Background);
   cover = as_bits cover (value_by cover cover_of (way Background)) refl refl (value-small cover cover_of (way Background) (omega (arith, ints)));
   alpha = as_bits alpha (value_by alpha alpha_of (way Opacity)) refl refl (value-small alpha alpha_of (way Opacity) (omega (arith, ints)));
   left = value-small position length_of (way Left) (omega (arith, ints));
@@ -86,8 +97,8 @@ state_by-in_slots layer way = record {
   width = value-small extent length_of (way Width) (omega (arith, ints));
   height = value-small extent length_of (way Height) (omega (arith, ints));
 } where
-  channel-small : (part : Value → Shade) (w : Way) → IsInSlot eight_bits (channel_by part w)
-  channel-small part w = level-small (part w.from) (part w.to) w.least w.greatest w.moves
+  channel-in : (part : Value → Shade) (w : Way) → IsInSlot eight_bits (channel_by part w)
+  channel-in part w = level-small (part w.from) (part w.to) w.least w.greatest w.moves
 
   value-small : (slot : Slot) (part : Value → ℤ) (w : Way) → slot.least ≤ℤ slot.greatest → IsInSlot slot (value_by slot part w)
   value-small slot part w some = in_slot slot (part w.from) (part w.to) w.least w.greatest some

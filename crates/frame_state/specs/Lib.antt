@@ -1,5 +1,4 @@
 pub mod Alpha
-pub mod Ends
 pub mod Named
 pub mod Scenes
 pub mod States

@@ -1,26 +1,20 @@
 -- The state of a layer as the code has it, seen as the definitions have it.
-use Rattle.std.specs.Prelude.{ℕ, pos, Bool, true, false, Option, None, Some, ◌≡◌, ◌<◌, ◌≤ℤ◌, List, length, slice_get, option_map, unwrap_or}
+use Rattle.std.specs.Prelude.{ℕ, pos, Bool, true, false, Option, None, Some, ◌≡◌, ◌<◌, List, length, slice_get, option_map, unwrap_or}
 use Rattle.page_model.specs.declared.colour.Rgba.{Rgba}
 use Rattle.page_model.specs.declared.property.Prop.{Prop}
 use Rattle.page_model.specs.declared.property.Prop.TheVariants.{Background, Opacity, Visibility, Left, Top, Width, Height}
 use Rattle.page_model.specs.declared.scene.Layer.{Layer}
 use Rattle.page_model.specs.declared.scene.Scene.{Scene}
 use Rattle.page_model.specs.declared.setup.Setup.{Setup}
-use Rattle.page_model.specs.Enclosure.{Loose, LooseState, one_value, Sureness, surely, surely_not, maybe, own, IsLooseStateAt}
+use Rattle.page_model.specs.Enclosure.{LooseState, one_value, Sureness, surely, surely_not, maybe, own, IsLooseStateAt}
 use Rattle.page_model.specs.LayerAt.{IsStateAt, State, red_of, green_of, blue_of, cover_of, alpha_of, length_of}
-use Rattle.page_model.specs.Slot.{Slot, cover, alpha, position, extent}
-use Rattle.fix_span.specs.declared.loose.Loose.{Loose as Ends}
-use Rattle.frame_state.specs.declared.slots.Slot.{Slot as Held}
+use Rattle.page_model.specs.Slot.{cover, alpha, position, extent}
+pub use Rattle.slot_values.specs.Channels.{eight_bits}
+pub use Rattle.slot_values.specs.Slots.{IsInSlot, loose_as, slot_as}
 use Rattle.frame_state.specs.declared.types.LayerState.{LayerState}
 use Rattle.frame_state.specs.declared.types.Shown.{Shown}
 use Rattle.frame_state.specs.declared.types.Shown.TheVariants.{Yes, No, Maybe}
 use Rattle.frame_state.specs.Ways.{Way, channel_by, value_by, shown_by}
-
-abbrev pub slot_as : Held → Slot
-slot_as slot = record { unit = slot.unit; least = slot.least; greatest = slot.greatest }
-
-abbrev pub loose_as : Ends → Loose
-loose_as ends = record { lo = ends.lo; hi = ends.hi }
 
 abbrev pub sureness_of : Shown → Sureness
 sureness_of Yes = surely
@@ -61,17 +55,7 @@ known state = record {
   height = one_value state.height;
 }
 
--- a loose value has its ends in order and in the range of its slot
-pub record IsInSlot (slot : Slot) (loose : Loose) : Type 0 where
-  pub at_least : slot.least ≤ℤ loose.lo
-  pub in_order : loose.lo ≤ℤ loose.hi
-  pub at_most : loose.hi ≤ℤ slot.greatest
-
--- the range of channels, covers and alphas
-abbrev pub eight_bits : Slot
-eight_bits = record { unit = 1; least = pos 0; greatest = pos 255 }
-
--- so has each of a state
+-- each value of a state has its ends in order and in the range of its slot
 pub record IsInSlots (state : LooseState) : Type 0 where
   pub red : IsInSlot eight_bits state.red
   pub green : IsInSlot eight_bits state.green

@@ -1,8 +1,7 @@
 -- A property on its way: from one value to another, with so much of the way made as is known of an eased value, which is between two
 -- ends. A value that stays is on its way to itself, so each course is a way; whether it moves is told beside, since a channel that stays
 -- is the colour's own.
-use Rattle.std.specs.Prelude.{ℕ, ℤ, pos, Bool, true, false, Option, None, Some, ◌≡◌, ◌*◌, ◌^◌, ◌+ℤ◌, ◌-ℤ◌, ◌*ℤ◌, int_le, nat_abs, List, filter_map, option_map, if◌then◌else◌}
-use Rattle.std.specs.Int.{int_div_euclid, int_min, int_max}
+use Rattle.std.specs.Prelude.{ℕ, ℤ, pos, Bool, true, false, Option, None, Some, ◌≡◌, ◌^◌, int_le, List, filter_map, option_map, if◌then◌else◌}
 use Rattle.page_model.specs.declared.animation.Anim.{Anim}
 use Rattle.page_model.specs.declared.property.Prop.{Prop}
 use Rattle.page_model.specs.declared.property.Prop.TheVariants.{Background, Opacity, Visibility, Left, Top, Width, Height}
@@ -10,36 +9,35 @@ use Rattle.page_model.specs.declared.property.Value.{Value}
 use Rattle.page_model.specs.declared.scene.Layer.{Layer}
 use Rattle.page_model.specs.declared.scene.Scene.{Scene}
 use Rattle.page_model.specs.declared.setup.Setup.{Setup}
-use Rattle.page_model.specs.Enclosure.{Loose, Sureness, any_level, maybe, one_value, surely, surely_not}
+use Rattle.page_model.specs.Enclosure.{Loose, Sureness, maybe, one_value, surely, surely_not}
 use Rattle.page_model.specs.Keyframes.{Interval, last_of}
 use Rattle.page_model.specs.LayerAt.{Course, still, moving, declared, interval_at, is_held, visible_of}
-use Rattle.page_model.specs.Slot.{Shade, Slot, held, over_alpha, own_level, premultiplied}
-use Rattle.fix_span.specs.declared.frac.Frac.{Frac}
+use Rattle.page_model.specs.Slot.{Shade, Slot, own_level}
 use Rattle.fix_span.specs.Frac.{fraction_of}
 use Rattle.keyframe_sets.specs.declared.types.Interval.{Interval as Found}
 use Rattle.easing_bounds.specs.declared.types.Eased.{Eased}
 use Rattle.easing_bounds.specs.declared.types.Eased.TheVariants.{Exact, Within}
 use Rattle.easing_bounds.specs.Value.{eased_value}
-use Rattle.frame_state.specs.declared.parts.Shade.{Shade as Channel}
+use Rattle.slot_values.specs.Channels.{channel_between}
+use Rattle.slot_values.specs.Ends.{End, end_of, nothing_made}
+use Rattle.slot_values.specs.Slots.{slot_between}
+use Rattle.frame_state.specs.declared.way.Course.{Course as Taken}
+use Rattle.frame_state.specs.declared.way.Course.TheVariants.{Stays, Moves}
 use Rattle.frame_state.specs.declared.way.Way.{Way as Made}
 use Rattle.frame_state.specs.declared.way.Ways.{Ways}
 
--- an end of what is known of an eased value: a number over so many parts, also below 0 and above 1
-pub record End : Type 0 where
-  pub num : ℤ
-  pub den : ℕ
-
-abbrev pub end_of : Frac → End
-end_of x = record { num = x.num; den = nat_abs x.den }
+-- an end of a curve's value
+abbrev pub curve_end : ℤ → End
+curve_end parts = record { num = parts; den = 2 ^ 30 }
 
 -- the two ends of an eased value, which are one where it is a fraction
 abbrev pub least_of : Eased → End
 least_of (Exact y) = end_of y
-least_of (Within span) = record { num = span.lo; den = 2 ^ 30 }
+least_of (Within span) = curve_end span.lo
 
 abbrev pub greatest_of : Eased → End
 greatest_of (Exact y) = end_of y
-greatest_of (Within span) = record { num = span.hi; den = 2 ^ 30 }
+greatest_of (Within span) = curve_end span.hi
 
 pub record Way : Type 0 where
   pub from : Value
@@ -47,9 +45,6 @@ pub record Way : Type 0 where
   pub least : End
   pub greatest : End
   pub moves : Bool
-
-abbrev pub nothing_made : End
-nothing_made = record { num = pos 0; den = 1 }
 
 abbrev pub stays : Value → Way
 stays x = record { from = x; to = x; least = nothing_made; greatest = nothing_made; moves = false }
@@ -67,52 +62,9 @@ abbrev pub way_of : Course → Way
 way_of (still x) = stays x
 way_of (moving interval) = eased_way interval
 
--- a number on the way from one to another at an end, in parts of the end's denominator
-abbrev pub between : ℤ → ℤ → End → ℤ
-between from to x = from *ℤ pos x.den +ℤ (to -ℤ from) *ℤ x.num
-
--- a number over so many parts, rounded half up
-abbrev pub half_up : ℤ → ℤ → ℤ
-half_up value parts = int_div_euclid (pos 2 *ℤ value +ℤ parts) (pos 2 *ℤ parts)
-
--- the value of a slot at an end: rounded half up, and held in the range
-abbrev pub rounded_at : Slot → ℤ → ℤ → End → ℤ
-rounded_at slot from to x = half_up (between from to x) (pos (slot.unit * x.den))
-
-abbrev pub value_at : Slot → ℤ → ℤ → End → ℤ
-value_at slot from to x = held slot (rounded_at slot from to x)
-
--- the values at two ends, the lesser first
-abbrev pub loose_of : ℤ → ℤ → Loose
-loose_of a b = record { lo = int_min a b; hi = int_max a b }
-
-abbrev pub slot_between : Slot → ℤ → ℤ → End → End → Loose
-slot_between slot from to least greatest = loose_of (value_at slot from to least) (value_at slot from to greatest)
-
+-- a slot on a way
 abbrev pub value_by : Slot → (Value → ℤ) → Way → Loose
 value_by slot part way = slot_between slot (part way.from) (part way.to) way.least way.greatest
-
--- the alpha of a colour on its way at an end, whether it is gone there, and the channel that there is left
-abbrev pub alpha_at : Shade → Shade → End → ℤ
-alpha_at from to x = between (pos from.alpha) (pos to.alpha) x
-
-abbrev pub is_gone_at : Shade → Shade → End → Bool
-is_gone_at from to x = int_le (alpha_at from to x) (pos 0)
-
-abbrev pub level_at : Shade → Shade → End → ℤ
-level_at from to x =
-    over_alpha (between (pos (premultiplied from)) (pos (premultiplied to)) x) (between (pos from.alpha) (pos to.alpha) x)
-
--- the channel by its values at two ends: 0 where the alpha is gone at both, and anything where it is gone at one of them
-abbrev pub channel_left : Bool → Bool → ℤ → ℤ → Loose
-channel_left true true a b = one_value (pos 0)
-channel_left true false a b = any_level
-channel_left false true a b = any_level
-channel_left false false a b = loose_of a b
-
-abbrev pub channel_between : Shade → Shade → End → End → Loose
-channel_between from to least greatest =
-    channel_left (is_gone_at from to least) (is_gone_at from to greatest) (level_at from to least) (level_at from to greatest)
 
 -- a channel on a way
 abbrev pub level_by : Shade → Shade → End → End → Bool → Loose
@@ -151,10 +103,11 @@ interval_as interval = record {
 }
 
 abbrev pub way_as : Made → Way
-way_as way = record { from = way.from; to = way.to; least = end_of way.least; greatest = end_of way.greatest; moves = way.moves }
+way_as way = record { from = way.from; to = way.to; least = end_of way.least; greatest = end_of way.greatest; moves = true }
 
-abbrev pub shade_as : Channel → Shade
-shade_as shade = record { level = shade.level; alpha = shade.alpha }
+abbrev pub course_as : Taken → Way
+course_as (Stays x) = stays x
+course_as (Moves way) = way_as way
 
 -- the way of each property by the animations of a layer that were looked at, where one of them has an effect and names it
 abbrev pub way_found : Ways → Prop → Option Way

@@ -3,21 +3,37 @@ ghost use Rattle.std.specs.Prelude.{◌≡◌, ◌<◌, option_map};
 ghost use Rattle.page_model.specs.Enclosure.{one_value};
 ghost use Rattle.page_model.specs.LayerAt as definition;
 ghost use Rattle.page_model.specs.Slot as slots;
+ghost use Rattle.slot_values.specs.Channels.{shade_as};
+ghost use Rattle.slot_values.specs.Ends.{end_of, IsEnd};
+ghost use Rattle.slot_values.specs.Slots.{loose_as, slot_as};
 ghost use Rattle.frame_state.specs.Alpha.{HasAlpha};
-ghost use Rattle.frame_state.specs.Ends.{IsEnd};
-ghost use Rattle.frame_state.specs.States.{slot_as, loose_as, sureness_of, sure_with};
+ghost use Rattle.frame_state.specs.States.{sureness_of, sure_with};
 ghost use Rattle.frame_state.specs.Ways as ways;
-ghost use Rattle.frame_state.specs.Ways.{end_of, way_as, channel_by, value_by, chosen, stays};
+ghost use Rattle.frame_state.specs.Ways.{channel_by, chosen, course_as, stays, value_by, way_as};
 
-use crate::channels::channel_on;
-use crate::parts::{Shade, alpha_of, blue_of, cover_of, green_of, length_of, red_of, visible_of};
-use crate::slots::{ALPHA, COVER, Slot, slot_value, still};
+use crate::parts::{alpha_of, blue_of, cover_of, green_of, length_of, red_of, visible_of};
 use crate::types::Shown;
-use crate::way::Way;
+use crate::way::{Course, Way};
 use fix_span::{Frac, Loose};
 use page_model::{Rgba, Value};
+use slot_values::{ALPHA, COVER, Shade, Slot, channel_on, slot_value, still};
 
-// Whether a box is hidden between two visibilities, at an end.
+/// What a property does: by the way that was found, if there is one and its declaration isn't important, and else it
+/// stays at its own value.
+pub fn course_of(held: bool, own: Value, found: &Option<Way>) -> Course
+    ensures course { course_as result ≡ chosen held own (option_map way_as found.now) }
+    ensures alpha { HasAlpha own → HasAlpha (course_as result).from }
+{
+    if held {
+        return Course::Stays(own);
+    }
+    match *found {
+        Some(way) => Course::Moves(way),
+        None => Course::Stays(own),
+    }
+}
+
+/// Whether a box is hidden between two visibilities, at an end.
 fn hides_at(from: bool, to: bool, end: Frac) -> bool
     requires { IsEnd end }
     ensures { result ≡ ways.hides_at from to (end_of end) }
@@ -30,8 +46,8 @@ fn hides_at(from: bool, to: bool, end: Frac) -> bool
     }
 }
 
-// How surely a box is shown on a way.
-fn shown_by(way: Way) -> Shown
+/// How surely a box is shown on a way.
+fn shown_on(way: Way) -> Shown
     ensures { sureness_of result ≡ ways.shown_by (way_as way) }
 {
     let from = visible_of(way.from);
@@ -46,7 +62,7 @@ fn shown_by(way: Way) -> Shown
     }
 }
 
-// How surely a box is shown that stays visible or hidden.
+/// How surely a box is shown that stays visible or hidden.
 fn shown_still(own: Value) -> Shown
     ensures { sureness_of result ≡ ways.shown_by (stays own) }
 {
@@ -57,51 +73,51 @@ fn shown_still(own: Value) -> Shown
     }
 }
 
-fn shown_in(held: bool, own: Value, found: &Option<Way>) -> Shown
-    ensures { sureness_of result ≡ ways.shown_by (chosen held own (option_map way_as found.now)) }
+/// How surely a box is shown.
+fn shown_by(course: Course) -> Shown
+    ensures { sureness_of result ≡ ways.shown_by (course_as course) }
 {
-    if held {
-        return shown_still(own);
-    }
-    match *found {
-        Some(way) => shown_by(way),
-        None => shown_still(own),
+    match course {
+        Course::Stays(own) => shown_still(own),
+        Course::Moves(way) => shown_on(way),
     }
 }
 
-// How surely a box with a colour, or without one, is shown.
-pub fn shown_with(colour: Option<Rgba>, held: bool, own: Value, found: &Option<Way>) -> Shown
-    ensures { sureness_of result ≡ sure_with colour (chosen held own (option_map way_as found.now)) }
+/// How surely a box with a colour, or without one, is shown.
+pub fn shown_with(colour: Option<Rgba>, course: Course) -> Shown
+    ensures { sureness_of result ≡ sure_with colour (course_as course) }
 {
     match colour {
-        Some(_) => shown_in(held, own, found),
+        Some(_) => shown_by(course),
         None => Shown::No,
     }
 }
 
-// The channels, the cover and the alpha on a way.
-
+/// The red on a way.
 fn red_on(way: Way) -> Loose
     ensures { loose_as result ≡ channel_by definition.red_of (way_as way) }
 {
     let from = red_of(way.from);
-    channel_on(from, red_of(way.to), way.least, way.greatest, way.moves)
+    channel_on(from, red_of(way.to), way.least, way.greatest)
 }
 
+/// The green on a way.
 fn green_on(way: Way) -> Loose
     ensures { loose_as result ≡ channel_by definition.green_of (way_as way) }
 {
     let from = green_of(way.from);
-    channel_on(from, green_of(way.to), way.least, way.greatest, way.moves)
+    channel_on(from, green_of(way.to), way.least, way.greatest)
 }
 
+/// The blue on a way.
 fn blue_on(way: Way) -> Loose
     ensures { loose_as result ≡ channel_by definition.blue_of (way_as way) }
 {
     let from = blue_of(way.from);
-    channel_on(from, blue_of(way.to), way.least, way.greatest, way.moves)
+    channel_on(from, blue_of(way.to), way.least, way.greatest)
 }
 
+/// The cover on a way.
 fn cover_on(way: Way) -> Loose
     ensures { loose_as result ≡ value_by slots.cover definition.cover_of (way_as way) }
 {
@@ -109,6 +125,7 @@ fn cover_on(way: Way) -> Loose
     slot_value(COVER, from, cover_of(way.to), way.least, way.greatest)
 }
 
+/// The alpha on a way.
 fn alpha_on(way: Way) -> Loose
     ensures { loose_as result ≡ value_by slots.alpha definition.alpha_of (way_as way) }
 {
@@ -116,8 +133,8 @@ fn alpha_on(way: Way) -> Loose
     slot_value(ALPHA, from, alpha_of(way.to), way.least, way.greatest)
 }
 
-// A length on a way, in whole pixels.
-fn pixels(slot: Slot, way: Way) -> Loose
+/// A length on a way, in whole pixels.
+fn pixels_on(slot: Slot, way: Way) -> Loose
     requires { 0 < slot.unit }
     ensures { loose_as result ≡ value_by (slot_as slot) definition.length_of (way_as way) }
 {
@@ -125,7 +142,7 @@ fn pixels(slot: Slot, way: Way) -> Loose
     slot_value(slot, from, length_of(way.to), way.least, way.greatest)
 }
 
-// The channels and the cover of a colour.
+/// The channels and the cover of a colour.
 #[derive(Clone, Copy)]
 pub struct Fill {
     pub r: Loose,
@@ -134,9 +151,9 @@ pub struct Fill {
     pub cover: Loose,
 }
 
-// A channel of a colour that stays.
+/// A channel of a colour that stays.
 fn level_still(own: Shade) -> Loose
-    ensures { loose_as result ≡ one_value (slots.own_level (ways.shade_as own)) }
+    ensures { loose_as result ≡ one_value (slots.own_level (shade_as own)) }
 {
     let level = own.level as i32;
     Loose {
@@ -145,6 +162,7 @@ fn level_still(own: Shade) -> Loose
     }
 }
 
+/// The colour of a box where it stays.
 fn fill_still(own: Value) -> Fill
     requires { HasAlpha own }
     ensures red { loose_as result.r ≡ channel_by definition.red_of (stays own) }
@@ -160,6 +178,7 @@ fn fill_still(own: Value) -> Fill
     }
 }
 
+/// The colour of a box on a way.
 fn fill_on(way: Way) -> Fill
     ensures red { loose_as result.r ≡ channel_by definition.red_of (way_as way) }
     ensures green { loose_as result.g ≡ channel_by definition.green_of (way_as way) }
@@ -174,44 +193,38 @@ fn fill_on(way: Way) -> Fill
     }
 }
 
-// The colour of a box.
-pub fn fill_by(held: bool, own: Value, found: &Option<Way>) -> Fill
-    requires { HasAlpha own }
-    ensures red { loose_as result.r ≡ channel_by definition.red_of (chosen held own (option_map way_as found.now)) }
-    ensures green { loose_as result.g ≡ channel_by definition.green_of (chosen held own (option_map way_as found.now)) }
-    ensures blue { loose_as result.b ≡ channel_by definition.blue_of (chosen held own (option_map way_as found.now)) }
-    ensures cover { loose_as result.cover
-        ≡ value_by slots.cover definition.cover_of (chosen held own (option_map way_as found.now)) }
+/// The colour of a box.
+pub fn fill_by(course: Course) -> Fill
+    requires { HasAlpha (course_as course).from }
+    ensures red { loose_as result.r ≡ channel_by definition.red_of (course_as course) }
+    ensures green { loose_as result.g ≡ channel_by definition.green_of (course_as course) }
+    ensures blue { loose_as result.b ≡ channel_by definition.blue_of (course_as course) }
+    ensures cover { loose_as result.cover ≡ value_by slots.cover definition.cover_of (course_as course) }
 {
-    if held {
-        return fill_still(own);
-    }
-    match *found {
-        Some(way) => fill_on(way),
-        None => fill_still(own),
+    match course {
+        Course::Stays(own) => fill_still(own),
+        Course::Moves(way) => fill_on(way),
     }
 }
 
+/// The alpha of an opacity that stays.
 fn alpha_still(own: Value) -> Loose
     ensures { loose_as result ≡ value_by slots.alpha definition.alpha_of (stays own) }
 {
     still(ALPHA, alpha_of(own))
 }
 
-// Its opacity.
-pub fn alpha_by(held: bool, own: Value, found: &Option<Way>) -> Loose
-    ensures { loose_as result
-        ≡ value_by slots.alpha definition.alpha_of (chosen held own (option_map way_as found.now)) }
+/// The alpha of a box's opacity.
+pub fn alpha_by(course: Course) -> Loose
+    ensures { loose_as result ≡ value_by slots.alpha definition.alpha_of (course_as course) }
 {
-    if held {
-        return alpha_still(own);
-    }
-    match *found {
-        Some(way) => alpha_on(way),
-        None => alpha_still(own),
+    match course {
+        Course::Stays(own) => alpha_still(own),
+        Course::Moves(way) => alpha_on(way),
     }
 }
 
+/// A length that stays, in whole pixels.
 fn pixels_still(slot: Slot, own: Value) -> Loose
     requires { 0 < slot.unit }
     ensures { loose_as result ≡ value_by (slot_as slot) definition.length_of (stays own) }
@@ -219,17 +232,13 @@ fn pixels_still(slot: Slot, own: Value) -> Loose
     still(slot, length_of(own))
 }
 
-// A length of it, in whole pixels.
-pub fn pixels_by(slot: Slot, held: bool, own: Value, found: &Option<Way>) -> Loose
+/// A length of a box, in whole pixels.
+pub fn pixels_by(slot: Slot, course: Course) -> Loose
     requires { 0 < slot.unit }
-    ensures { loose_as result
-        ≡ value_by (slot_as slot) definition.length_of (chosen held own (option_map way_as found.now)) }
+    ensures { loose_as result ≡ value_by (slot_as slot) definition.length_of (course_as course) }
 {
-    if held {
-        return pixels_still(slot, own);
-    }
-    match *found {
-        Some(way) => pixels(slot, way),
-        None => pixels_still(slot, own),
+    match course {
+        Course::Stays(own) => pixels_still(slot, own),
+        Course::Moves(way) => pixels_on(slot, way),
     }
 }

@@ -9,41 +9,47 @@ ghost use Rattle.frame_state.specs.Scenes.{is_cubic};
 ghost use Rattle.frame_state.specs.States.{state_as, states_as, state_by, known, IsInSlots, AreOwn, AreExact, AreInSlots};
 ghost use Rattle.frame_state.specs.Ways.{way_in};
 
-use crate::found::{alpha_by, fill_by, pixels_by, shown_with};
-use crate::slots::{EXTENT, POSITION};
+use crate::found::{alpha_by, course_of, fill_by, pixels_by, shown_with};
 use crate::types::LayerState;
 use crate::way::Ways;
 use crate::ways::ways_at;
 use keyframe_sets::declared;
 use page_model::{Layer, Prop, Scene, Setup};
+use slot_values::{EXTENT, POSITION};
 
-// The state of a layer, by what animations make of its properties.
+/// The state of a layer, by what animations make of its properties.
 fn state_of(layer: &Layer, ways: &Ways) -> LayerState
     requires { IfSome layer.now.colour IsColour }
     ensures { state_as result ≡ state_by layer.now (way_in layer.now ways.now) }
 {
     let held = layer.important;
-    let fill = fill_by(
+    let background = course_of(
         held.background,
         declared(layer, Prop::Background),
         &ways.background,
     );
-    let visible = declared(layer, Prop::Visibility);
-    let left = declared(layer, Prop::Left);
-    let top = declared(layer, Prop::Top);
-    let width = declared(layer, Prop::Width);
-    let height = declared(layer, Prop::Height);
+    let opacity = course_of(held.opacity, declared(layer, Prop::Opacity), &ways.opacity);
+    let visibility = course_of(
+        held.visibility,
+        declared(layer, Prop::Visibility),
+        &ways.visibility,
+    );
+    let left = course_of(held.left, declared(layer, Prop::Left), &ways.left);
+    let top = course_of(held.top, declared(layer, Prop::Top), &ways.top);
+    let width = course_of(held.width, declared(layer, Prop::Width), &ways.width);
+    let height = course_of(held.height, declared(layer, Prop::Height), &ways.height);
+    let fill = fill_by(background);
     LayerState {
-        shown: shown_with(layer.colour, held.visibility, visible, &ways.visibility),
+        shown: shown_with(layer.colour, visibility),
         r: fill.r,
         g: fill.g,
         b: fill.b,
         cover: fill.cover,
-        alpha: alpha_by(held.opacity, declared(layer, Prop::Opacity), &ways.opacity),
-        left: pixels_by(POSITION, held.left, left, &ways.left),
-        top: pixels_by(POSITION, held.top, top, &ways.top),
-        width: pixels_by(EXTENT, held.width, width, &ways.width),
-        height: pixels_by(EXTENT, held.height, height, &ways.height),
+        alpha: alpha_by(opacity),
+        left: pixels_by(POSITION, left),
+        top: pixels_by(POSITION, top),
+        width: pixels_by(EXTENT, width),
+        height: pixels_by(EXTENT, height),
     }
 }
 

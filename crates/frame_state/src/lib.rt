@@ -1,7 +1,8 @@
 //! The state of a layer in a frame: its colour, its cover, its alpha, whether it is shown and its box, in whole numbers.
 //!
 //! What paints a pixel asks this crate for the states of all layers; below it, timing says how far an animation
-//! is, the keyframe sets between which values a property then is, and the easing how far on its way.
+//! is, the keyframe sets between which values a property then is, the easing how far on its way, and the slots which
+//! whole value that makes.
 //! [`layer_at`] and [`states_at`] put these together: of a layer's animations the last that has an effect and
 //! names a property gives its value, unless the winning declaration is important, and each value is rounded
 //! half up and held in its range. Where a curve eases, no more is known than two ends between which its value
@@ -13,12 +14,10 @@
 //! What a pixel then looks like is not said here.
 #![tactic(auto)]
 
-mod channels;
 mod found;
 mod layers;
 mod named;
 mod parts;
-mod slots;
 mod types;
 mod way;
 mod ways;

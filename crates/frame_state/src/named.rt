@@ -1,14 +1,15 @@
 // Which properties the keyframes of an animation name.
-ghost use Rattle.std.specs.Prelude.{◌≡◌, ◌||◌, false, Some, slice_get};
+ghost use Rattle.std.specs.Prelude.{◌≡◌, ◌||◌, false, None, Some, slice_get};
 ghost use Rattle.std.specs.List.{list_any};
 ghost use Rattle.page_model.specs.declared.keyframe.KeyframeSet.{KeyframeSet as Set};
 ghost use Rattle.page_model.specs.declared.property.Prop.{Prop as Property};
-ghost use Rattle.page_model.specs.Keyframes.{is_same, names, number_of};
+ghost use Rattle.page_model.specs.Keyframes.{is_same, names};
 ghost use Rattle.frame_state.specs.Named.{is_named, is_set_by};
 
+use keyframe_sets::number_of;
 use page_model::{Anim, Keyframe, Prop, Scene, Setting};
 
-// Of each property whether it is named.
+/// Of each property whether it is named.
 #[derive(Clone, Copy)]
 pub struct Named {
     pub background: bool,
@@ -20,6 +21,7 @@ pub struct Named {
     pub height: bool,
 }
 
+/// No property is named.
 const NONE_NAMED: Named = Named {
     background: false,
     opacity: false,
@@ -30,22 +32,7 @@ const NONE_NAMED: Named = Named {
     height: false,
 };
 
-// A number for each property.
-fn number_of(prop: Prop) -> u8
-    ensures { result ≡ number_of prop }
-{
-    match prop {
-        Prop::Background => 0,
-        Prop::Opacity => 1,
-        Prop::Visibility => 2,
-        Prop::Left => 3,
-        Prop::Top => 4,
-        Prop::Width => 5,
-        Prop::Height => 6,
-    }
-}
-
-// With one more property.
+/// With one more property.
 fn with_prop(named: Named, prop: Prop) -> Named
     ensures { (other : Property) → is_named result other ≡ (is_named named other || is_same prop other) }
 {
@@ -61,7 +48,7 @@ fn with_prop(named: Named, prop: Prop) -> Named
     }
 }
 
-// With those of some settings.
+/// With those of some settings.
 fn with_settings(before: Named, values: &[Setting]) -> Named
     ensures { (other : Property) → is_named result other
         ≡ (is_named before other || list_any (λ setting. is_same setting.prop other) values.now) }
@@ -73,7 +60,7 @@ fn with_settings(before: Named, values: &[Setting]) -> Named
     named
 }
 
-// Those of some keyframes.
+/// Those of some keyframes.
 fn named_in(frames: &[Keyframe]) -> Named
     ensures { (other : Property) → is_named result other ≡ list_any (is_set_by other) frames.now }
 {
@@ -84,10 +71,11 @@ fn named_in(frames: &[Keyframe]) -> Named
     named
 }
 
-// Those of an animation's set: no other property is named there.
+/// Those of an animation's set: exactly those that the set names, and none where there is no such set.
 pub fn named_by(scene: &Scene, anim: &Anim) -> Named
-    ensures { (other : Property) (set : Set) → is_named result other ≡ false
-        → slice_get scene.now.sets anim.now.set ≡ Some set → names other set.frames ≡ false }
+    ensures there { (other : Property) (set : Set) → slice_get scene.now.sets anim.now.set ≡ Some set
+        → is_named result other ≡ names other set.frames }
+    ensures missing { slice_get scene.now.sets anim.now.set ≡ None → (other : Property) → is_named result other ≡ false }
 {
     match scene.sets.get(anim.set as usize) {
         Some(set) => named_in(set.frames.as_slice()),

@@ -1,18 +1,13 @@
 // The parts of a value that go into slots.
 ghost use Rattle.std.specs.Prelude.{◌≡◌};
 ghost use Rattle.page_model.specs.LayerAt as definition;
+ghost use Rattle.slot_values.specs.Channels.{shade_as};
 ghost use Rattle.frame_state.specs.Alpha.{HasAlpha};
-ghost use Rattle.frame_state.specs.Ways.{shade_as};
 
 use page_model::{Rgba, Value};
+use slot_values::Shade;
 
-// A channel of a colour, and the colour's alpha in parts of 255,000.
-#[derive(Clone, Copy)]
-pub struct Shade {
-    pub level: u8,
-    pub alpha: u32,
-}
-
+/// The colour of a value that is none: transparent.
 const NO_COLOUR: Rgba = Rgba {
     r: 0,
     g: 0,
@@ -20,6 +15,7 @@ const NO_COLOUR: Rgba = Rgba {
     a: 0,
 };
 
+/// The colour of a value.
 fn colour_in(value: Value) -> Rgba
     ensures { result ≡ definition.colour_in value }
 {
@@ -29,6 +25,7 @@ fn colour_in(value: Value) -> Rgba
     }
 }
 
+/// The red of a value, and the alpha of its colour.
 pub fn red_of(value: Value) -> Shade
     ensures { shade_as result ≡ definition.red_of value }
 {
@@ -39,6 +36,7 @@ pub fn red_of(value: Value) -> Shade
     }
 }
 
+/// The green of a value, and the alpha of its colour.
 pub fn green_of(value: Value) -> Shade
     ensures { shade_as result ≡ definition.green_of value }
 {
@@ -49,6 +47,7 @@ pub fn green_of(value: Value) -> Shade
     }
 }
 
+/// The blue of a value, and the alpha of its colour.
 pub fn blue_of(value: Value) -> Shade
     ensures { shade_as result ≡ definition.blue_of value }
 {
@@ -59,7 +58,7 @@ pub fn blue_of(value: Value) -> Shade
     }
 }
 
-// Parts of 255,000.
+/// The cover of a value, in parts of 255,000.
 pub fn cover_of(value: Value) -> i32
     requires { HasAlpha value }
     ensures { result ≡ definition.cover_of value }
@@ -67,7 +66,7 @@ pub fn cover_of(value: Value) -> i32
     colour_in(value).a as i32
 }
 
-// 255 times the thousandths.
+/// The opacity of a value: 255 times its thousandths.
 pub fn alpha_of(value: Value) -> i32
     ensures { result ≡ definition.alpha_of value }
 {
@@ -77,6 +76,7 @@ pub fn alpha_of(value: Value) -> i32
     }
 }
 
+/// The length of a value, in hundredths of a pixel.
 pub fn length_of(value: Value) -> i32
     ensures { result ≡ definition.length_of value }
 {
@@ -86,6 +86,7 @@ pub fn length_of(value: Value) -> i32
     }
 }
 
+/// Whether a value is visible.
 pub fn visible_of(value: Value) -> bool
     ensures { result ≡ definition.visible_of value }
 {

@@ -1,7 +1,10 @@
 -- Least numbers: there is at most one, and there is one where the property can be decided.
-use Rattle.std.proofs.Common.{◌≡◌, ℕ, zero, suc, ◌<◌, arith, inl, inr, subst}
+use Rattle.std.proofs.Common.{◌≡◌, ℕ, zero, suc, ◌<◌, List, arith, inl, inr, subst}
 use Rattle.std.specs.Prelude.{◌⊎◌}
 use Rattle.std.proofs.lemmas.Bool.{cases_lt}
+use Rattle.page_model.specs.declared.animation.Anim.{Anim}
+use Rattle.page_model.specs.declared.setup.Setup.{Setup}
+use Rattle.page_model.specs.Horizon.{IsNeeded}
 use Rattle.page_model.specs.Least.{IsLeast}
 
 -- two least numbers are one
@@ -9,6 +12,15 @@ pub IsLeast-unique : (P : ℕ → Type 0) (one other : ℕ) → IsLeast P one �
 IsLeast-unique P one other first second =
     let below = first.least other second.holds in
     let above = second.least one first.holds in
+    omega arith
+
+-- so are two numbers of needed frames
+pub needed-unique : (setup : Setup) (anims : List Anim) (one other : ℕ) → IsNeeded setup anims one → IsNeeded setup anims other → one ≡ other
+needed-unique setup anims one other first second =
+    let settled = IsLeast-unique _ _ _ first.horizon.settled_is second.horizon.settled_is in
+    let period = IsLeast-unique _ _ _ first.horizon.period_is second.horizon.period_is in
+    let sum = first.needed_is in
+    let again = second.needed_is in
     omega arith
 
 -- the property holds of a number, or it does not

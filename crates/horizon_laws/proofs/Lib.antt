@@ -1,4 +1,5 @@
 pub mod DivisionLemmas
+pub mod EarlierLemmas
 pub mod ElapsedLemmas
 pub mod EnoughLemmas
 pub mod LeastLemmas

@@ -1,6 +1,7 @@
 -- A layer's course depends on the progress of its animations alone, so behind the settled frame its state repeats.
 use Rattle.std.proofs.Common.{◌≡◌, ℕ, zero, suc, ◌+◌, ◌≤◌, List, [], ◌∷◌, ◌++◌, length, refl, ap, subst, sym}
-use Rattle.std.specs.Prelude.{◌↔◌, pos, Option, Some, All, filter_map, slice_get, slice_index_or, option_and_then, if◌then◌else◌}
+use Rattle.std.specs.Prelude.{◌↔◌, pos, Bool, true, false, Option, Some, All, filter_map, slice_get, slice_index_or, option_and_then, if◌then◌else◌}
+use Rattle.std.specs.List.{items_where_true}
 use Rattle.std.proofs.lemmas.List.Elements.{All-head, All-tail, All-take, All-drop}
 use Rattle.std.proofs.Math.Seq.{take-append_seam, drop-append_seam}
 use Rattle.page_model.specs.declared.setup.Setup.{Setup}
@@ -129,15 +130,48 @@ loose_state-repeats kind scene setup settled period frame number layer state rat
       loose_state-carries kind scene setup frame (frame + period) layer state (λ prop. sym (same prop)),
     )
 
--- so does one layer behind the settled frame of its own animations
-pub layer-repeats :
-    (scene : Scene) (setup : Setup) (settled period : ℕ) (layer : Layer) → HasFrames setup → IsHorizon setup layer.anims settled period
+-- so does a layer each of whose animations repeats
+layer-by :
+    (scene : Scene) (setup : Setup) (settled period : ℕ) (layer : Layer)
+    → ((frame : ℕ) → settled ≤ frame → All (λ (anim : Anim). progress_of setup anim (frame + period) ≡ progress_of setup anim frame) layer.anims)
     → LayerRepeats scene setup layer settled period
-layer-repeats scene setup settled period layer rate horizon kind frame state later =
-    let same = λ (prop : Prop). course-same scene setup (frame + period) frame layer prop (repeats-together setup layer.anims settled period frame rate horizon later) in (
+layer-by scene setup settled period layer repeat kind frame state later =
+    let same = λ (prop : Prop). course-same scene setup (frame + period) frame layer prop (repeat frame later) in (
       loose_state-carries kind scene setup (frame + period) frame layer state same,
       loose_state-carries kind scene setup frame (frame + period) layer state (λ prop. sym (same prop)),
     )
 
+-- behind the settled frame of its own animations
+pub layer-repeats :
+    (scene : Scene) (setup : Setup) (settled period : ℕ) (layer : Layer) → HasFrames setup → IsHorizon setup layer.anims settled period
+    → LayerRepeats scene setup layer settled period
+layer-repeats scene setup settled period layer rate horizon =
+    layer-by scene setup settled period layer (λ frame later. repeats-together setup layer.anims settled period frame rate horizon later)
+
+-- what holds of all animations of the marked layers holds of those of each
+pub of_marked : (P : Anim → Type 0) (marks : List Bool) (layers : List Layer) (number : ℕ) (layer : Layer)
+    → All P (animations_of (items_where_true marks layers)) → slice_get marks number ≡ Some true → slice_get layers number ≡ Some layer
+    → All P layer.anims
+of_marked P [] layers number layer all marked there = cc
+of_marked P (mark ∷ marks) [] number layer all marked there = cc
+of_marked P (true ∷ marks) (first ∷ rest) zero layer all marked there =
+    let same : first ≡ layer = cc in
+    subst (λ (x : Layer). All P x.anims) same (front P first.anims (animations_of (items_where_true marks rest)) all)
+of_marked P (false ∷ marks) (first ∷ rest) zero layer all marked there = absurd (cc)
+of_marked P (true ∷ marks) (first ∷ rest) (suc number) layer all marked there =
+    of_marked P marks rest number layer (back P first.anims (animations_of (items_where_true marks rest)) all) marked there
+of_marked P (false ∷ marks) (first ∷ rest) (suc number) layer all marked there = of_marked P marks rest number layer all marked there
+
+-- and behind that of the marked layers, which it is one of
+pub among-repeats :
+    (scene : Scene) (setup : Setup) (settled period number : ℕ) (marks : List Bool) (layer : Layer) → HasFrames setup
+    → IsHorizon setup (animations_of (items_where_true marks scene.layers)) settled period → slice_get marks number ≡ Some true
+    → slice_get scene.layers number ≡ Some layer → LayerRepeats scene setup layer settled period
+among-repeats scene setup settled period number marks layer rate horizon marked there =
+    let chosen = animations_of (items_where_true marks scene.layers) in
+    layer-by scene setup settled period layer (λ frame later.
+    of_marked (λ (anim : Anim). progress_of setup anim (frame + period) ≡ progress_of setup anim frame) marks scene.layers number layer
+    (repeats-together setup chosen settled period frame rate horizon later) marked there)
+
 pub states-repeat : StatesRepeat
-states-repeat = record { exactly = state-repeats; loosely = loose_state-repeats; alone = layer-repeats }
+states-repeat = record { exactly = state-repeats; loosely = loose_state-repeats; alone = layer-repeats; among = among-repeats }

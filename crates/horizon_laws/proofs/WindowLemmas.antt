@@ -41,7 +41,7 @@ later-rising period js rising k below =
     omega arith
 
 -- what is seen one period later
-abbrev seen_later : {C : Type 0} → ℕ → (ℕ → C) → ℕ → C
+abbrev pub seen_later : {C : Type 0} → ℕ → (ℕ → C) → ℕ → C
 seen_later period seen k = seen (k + period)
 
 later-rises : (period : ℕ) (js : List ℕ) → IsStrictlyIncreasing js → IsStrictlyIncreasing (later period js)
@@ -125,7 +125,7 @@ abbrev pub FlaggedBy : {C : Type 0} → (C → C → Type 0) → (C → C → Ty
 FlaggedBy Up Down Into Out seen start window column row =
     HasChain Up Down (λ frame. seen frame column row) start window ⊎ HasChain Into Out (λ frame. seen frame column row) start window
 
-flagged-earlier :
+pub flagged-earlier :
     {C : Type 0} (Up Down Into Out : C → C → Type 0) (seen : ℕ → ℕ → ℕ → C) (start window period column row : ℕ)
     → FlaggedBy Up Down Into Out seen (start + period) window column row
     → FlaggedBy Up Down Into Out (seen_later period seen) start window column row

@@ -15,7 +15,7 @@ mod forever;
 mod horizons;
 
 pub use cycles::{progress_repeats, wrong_cycle_breaks};
-pub use forever::{bad_windows_repeat, few_windows_suffice, states_repeat};
+pub use forever::{bad_windows_repeat, few_windows_suffice, frames_have_earlier, states_repeat};
 pub use horizons::{
     horizon_exists, horizon_is_unique, nothing_needs_one_frame, period_is_least_common_multiple,
     terms_are_least, turning_takes_twice,

@@ -1,18 +1,26 @@
--- Reading on from a place in a file.
-use Rattle.std.proofs.Common.{◌≡◌, ℕ, ◌+◌, ◌-◌, ◌<◌, List, [], length, get_or, Some, take, drop, min, refl, sym, ap, ◌∙◌}
+-- Reading on from a place in a file, where bytes may be doled out.
+use Rattle.std.proofs.Common.{◌≡◌, ℕ, ◌+◌, ◌-◌, ◌<◌, List, [], length, get_or, Option, None, Some, take, drop, min, refl, sym, ap, ◌∙◌, arith}
 use Rattle.std.specs.List.{slice_get}
 use Rattle.std.specs.Option.{option_map, unwrap_or}
-use Rattle.std.proofs.lemmas.List.{take_rest, drop_min, drop-drop}
+use Rattle.std.proofs.lemmas.List.{take_rest, drop_min, drop-drop, length-take}
 use Rattle.std.proofs.lemmas.Option.{slice_get_read}
+use Rattle.io_edge.specs.Calls.{dealt, offered}
 use Rattle.io_edge.specs.declared.shelf.File.{File}
 use Rattle.io_edge.specs.declared.shelf.Place.{Place}
 use Rattle.io_edge.specs.Shelf.{rest_of}
 
--- what is left behind as many bytes as there are, and as there is room for
-rest_behind : (bytes : List ℕ) (at room : ℕ) → drop (min at (length bytes) + min room (length (drop at bytes))) bytes ≡ drop room (drop at bytes)
-rest_behind bytes at room =
-    let count = min room (length (drop at bytes)) in
-    sym (drop-drop count (min at (length bytes)) bytes) ∙ ap (drop count) (drop_min at bytes) ∙ drop_min room (drop at bytes)
+-- what is left behind as many bytes as there are, as there is room for, and as are doled out
+drop_dealt : (most : Option ℕ) (room : ℕ) (rest : List ℕ) → drop (min room (length (offered most rest))) rest ≡ drop (dealt most room) rest
+drop_dealt None room rest = drop_min room rest
+drop_dealt (Some most) room rest =
+    let least : min room (min most (length rest)) ≡ min (min most room) (length rest) = omega arith in
+    ap (λ n. drop (min room n) rest) (length-take most rest) ∙ ap (λ n. drop n rest) least ∙ drop_min (min most room) rest
+
+-- the same from a place on
+rest_behind : (most : Option ℕ) (bytes : List ℕ) (at room : ℕ) → drop (min at (length bytes) + min room (length (offered most (drop at bytes)))) bytes ≡ drop (dealt most room) (drop at bytes)
+rest_behind most bytes at room =
+    let count = min room (length (offered most (drop at bytes))) in
+    sym (drop-drop count (min at (length bytes)) bytes) ∙ ap (drop count) (drop_min at bytes) ∙ drop_dealt most room (drop at bytes)
 
 -- a place that is held at the file's end leaves the same rest
 rest_held : (bytes : List ℕ) (at start : ℕ) → start ≡ min at (length bytes) → take (length bytes - start) (drop start bytes) ≡ drop at bytes
@@ -34,11 +42,11 @@ module _ (files : List File) (place : Place) (file : File) (bytes : List ℕ) (s
   slice_is_rest = rest_held bytes place.at start held ∙ sym (rest_in files place file bytes within is read place.at)
 
   -- behind what was read is what is left
-  pub rest_after : (room count : ℕ) → count ≡ min room (length (take (length bytes - start) (drop start bytes))) → rest_of files (Some (record place { at = start + count })) ≡ drop room (rest_of files (Some place))
-  rest_after room count e =
-      let counted : count ≡ min room (length (drop place.at bytes)) = e ∙ ap (λ r. min room (length r)) (rest_held bytes place.at start held) in
+  pub rest_after : (most : Option ℕ) (room count : ℕ) → count ≡ min room (length (offered most (take (length bytes - start) (drop start bytes)))) → rest_of files (Some (record place { at = start + count })) ≡ drop (dealt most room) (rest_of files (Some place))
+  rest_after most room count e =
+      let counted : count ≡ min room (length (offered most (drop place.at bytes))) = e ∙ ap (λ r. min room (length (offered most r))) (rest_held bytes place.at start held) in
       rest_in files place file bytes within is read (start + count)
       ∙ ap (λ n. drop (n + count) bytes) held
       ∙ ap (λ n. drop (min place.at (length bytes) + n) bytes) counted
-      ∙ rest_behind bytes place.at room
-      ∙ ap (drop room) (sym (rest_in files place file bytes within is read place.at))
+      ∙ rest_behind most bytes place.at room
+      ∙ ap (drop (dealt most room)) (sym (rest_in files place file bytes within is read place.at))

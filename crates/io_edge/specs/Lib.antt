@@ -5,4 +5,5 @@ pub mod Reading
 pub mod Shelf
 pub mod SinkState
 pub mod SourceState
+pub mod SureState
 pub mod Writing

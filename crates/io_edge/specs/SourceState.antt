@@ -1,16 +1,17 @@
 -- What a source in memory holds, and what each call makes of it.
-use Rattle.std.specs.Prelude.{ℕ, Bool, not, ◌&&◌, List, drop, if◌then◌else◌, refl}
-use Rattle.std.specs.Coded.{Coded, code_by, coded×, coded_ℕ, coded_list}
+use Rattle.std.specs.Prelude.{ℕ, Bool, not, ◌&&◌, List, drop, Option, if◌then◌else◌, refl}
+use Rattle.std.specs.Coded.{Coded, code_by, coded×, coded_ℕ, coded_list, coded_option}
 use Rattle.std.specs.FinMap as map
-use Rattle.io_edge.specs.Calls.{is_named}
+use Rattle.io_edge.specs.Calls.{is_named, dealt}
 use Rattle.io_edge.specs.Faults.{raised}
 use Rattle.io_edge.specs.Files.{Files, bytes_of}
 
--- the files, what is left of the opened one, the calls that are named to fail, how many calls there
--- were, and how many faults
+-- the files, what is left of the opened one, how many bytes are doled out to a read, where they are,
+-- the calls that are named to fail, how many calls there were, and how many faults
 pub record SourceState : Type 0 where
   pub files : Files
   pub rest : List ℕ
+  pub most : Option ℕ
   pub failing : List ℕ
   pub calls : ℕ
   pub faults : ℕ
@@ -18,10 +19,10 @@ pub record SourceState : Type 0 where
 -- a state is stored as the tuple of its fields
 abbrev pub source_code : Coded SourceState
 source_code =
-    code_by (Files × (List ℕ × (List ℕ × (ℕ × ℕ))))
-    (coded× (map.code (coded_list coded_ℕ) (coded_list coded_ℕ)) (coded× (coded_list coded_ℕ) (coded× (coded_list coded_ℕ) (coded× coded_ℕ coded_ℕ))))
-    (λ s. (s.files, (s.rest, (s.failing, (s.calls, s.faults)))))
-    (λ p. record { files = p.0; rest = p.1.0; failing = p.1.1.0; calls = p.1.1.1.0; faults = p.1.1.1.1 })
+    code_by (Files × (List ℕ × (Option ℕ × (List ℕ × (ℕ × ℕ)))))
+    (coded× (map.code (coded_list coded_ℕ) (coded_list coded_ℕ)) (coded× (coded_list coded_ℕ) (coded× (coded_option coded_ℕ) (coded× (coded_list coded_ℕ) (coded× coded_ℕ coded_ℕ)))))
+    (λ s. (s.files, (s.rest, (s.most, (s.failing, (s.calls, s.faults))))))
+    (λ p. record { files = p.0; rest = p.1.0; most = p.1.1.0; failing = p.1.1.1.0; calls = p.1.1.1.1.0; faults = p.1.1.1.1.1 })
     (λ _. refl)
 
 -- the next call of open or read is named to fail
@@ -46,4 +47,4 @@ after_open source name = if opens source name then after_call source (bytes_of s
 
 -- after a read into this much room
 abbrev pub after_read : SourceState → ℕ → SourceState
-after_read source room = if fails_next source then after_fault source else after_call source (drop room source.rest)
+after_read source room = if fails_next source then after_fault source else after_call source (drop (dealt source.most room) source.rest)

@@ -23,6 +23,8 @@ mod shelf;
 mod sink;
 mod source;
 mod stdout_sink;
+mod sure_sink;
+mod sure_source;
 mod writing;
 
 pub use fault::{SinkFault, SourceFault};
@@ -33,4 +35,6 @@ pub use reading::{ReadAllFault, read_all};
 pub use sink::Sink;
 pub use source::Source;
 pub use stdout_sink::StdoutSink;
+pub use sure_sink::SureSink;
+pub use sure_source::SureSource;
 pub use writing::write_all;

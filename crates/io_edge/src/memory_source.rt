@@ -1,6 +1,8 @@
 // Files in memory, as a source that fails where it is told to.
-ghost use Rattle.std.specs.Prelude.{◌≡◌, ◌++◌, ◌∷◌, [], not, min, is_ok, length, IfOk, OnOk, OnErr};
+ghost use Rattle.std.specs.Prelude.{◌≡◌, ◌++◌, ◌∷◌, [], ◌<◌, ◌≤◌, not, min, is_ok, length};
+ghost use Rattle.std.specs.Prelude.{None, Some, IfOk, OnOk, OnErr};
 ghost use Rattle.std.specs.FinMap as map;
+ghost use Rattle.io_edge.specs.Calls.{offered};
 ghost use Rattle.io_edge.specs.Faults.{HasCause};
 ghost use Rattle.io_edge.specs.Shelf.{filled};
 ghost use Rattle.io_edge.specs.SourceState.{after_open, after_read, fails_next, opens};
@@ -21,12 +23,14 @@ pub struct MemorySource {
     // The oldest first. Bytes that were replaced stay, since they may be what is being read.
     files: Vec<File>,
     reading: Option<Place>,
+    most: Option<u32>,
     failing: Vec<u32>,
     calls: u64,
     faults: u64,
 }
 
 impl Model for MemorySource {
+    ghost use Rattle.io_edge.specs.Calls.{IsDole};
     ghost use Rattle.io_edge.specs.Shelf.{files_of, rest_of, IsPlaceIn};
     ghost use Rattle.io_edge.specs.SourceState.{SourceState, source_code};
 
@@ -37,23 +41,26 @@ impl Model for MemorySource {
     ghost view = { λ s. record {
       files = files_of s.files.items;
       rest = rest_of s.files.items s.reading;
+      most = s.most;
       failing = s.failing.items;
       calls = s.calls;
       faults = s.faults;
     } };
 
-    ghost invariant = { λ s. IsPlaceIn s.files.items s.reading };
+    ghost invariant = { λ s. IsPlaceIn s.files.items s.reading × IsDole s.most };
 }
 
 impl MemorySource {
     /// A source with no file, of which nothing is open. It keeps the allocator for later files.
     pub fn new(alloc: Global) -> MemorySource
-        ensures { result ≡ record { files = map.empty; rest = []; failing = []; calls = 0; faults = 0 } }
+        ensures { result ≡
+            record { files = map.empty; rest = []; most = None; failing = []; calls = 0; faults = 0 } }
     {
         MemorySource {
             alloc,
             files: Vec::new(alloc),
             reading: None,
+            most: None,
             failing: Vec::new(alloc),
             calls: 0,
             faults: 0,
@@ -67,11 +74,7 @@ impl MemorySource {
             record self.old { files = map.insert self.old.files name.now bytes.now }) }
         ensures err { OnErr result (self.new ≡ self.old) }
     {
-        let file = File {
-            name: Vec::from_slice(self.alloc, name.as_bytes())?,
-            bytes: Vec::from_slice(self.alloc, bytes)?,
-        };
-        self.files.push(file)?;
+        self.files.push(File::new(self.alloc, name, bytes)?)?;
         Ok(())
     }
 
@@ -84,10 +87,18 @@ impl MemorySource {
         self.failing.push(call)?;
         Ok(())
     }
+
+    /// Doles out at most so many bytes to each later read.
+    pub fn dole(&mut self, most: u32)
+        requires { 1 ≤ most }
+        ensures { self.new ≡ record self.old { most = Some most } }
+    {
+        self.most = Some(most);
+    }
 }
 
 impl Source for MemorySource {
-    ghost use Rattle.std.specs.Prelude.{Some, ⊤};
+    ghost use Rattle.std.specs.Prelude.{⊤};
 
     ghost files = { λ s. Some s.files };
 
@@ -115,11 +126,13 @@ impl Source for MemorySource {
     }
 
     /// Fails exactly where the call is named to fail, and else gives as many bytes as the buffer and the
-    /// rest allow.
+    /// rest allow, but no more than are doled out.
     fn read(&mut self, buf: &mut [u8]) -> Result<usize, SourceFault>
         ensures answer { is_ok result ≡ not (fails_next self.old) }
-        ensures count { IfOk result (λ n. n ≡ min (length buf.old) (length self.old.rest)) }
-        ensures buffer { OnOk result (buf.new ≡ filled buf.old self.old.rest) }
+        ensures count { IfOk result (λ n.
+            n ≡ min (length buf.old) (length (offered self.old.most self.old.rest))) }
+        ensures end { IfOk result (λ n. n ≡ 0 → 0 < length buf.old → self.new.rest ≡ []) }
+        ensures buffer { OnOk result (buf.new ≡ filled buf.old (offered self.old.most self.old.rest)) }
         ensures kept { OnErr result (buf.new ≡ buf.old) }
         ensures state { self.new ≡ after_read self.old (length buf.old) }
         ensures cause { HasCause self.old.faults self.new.faults result }
@@ -132,6 +145,6 @@ impl Source for MemorySource {
         let Some(place) = &mut self.reading else {
             return Ok(0);
         };
-        Ok(read_on(self.files.as_slice(), place, buf))
+        Ok(read_on(self.files.as_slice(), place, self.most, buf))
     }
 }

@@ -1,12 +1,29 @@
 // Files that lie in memory, and the place in one that is being read.
-ghost use Rattle.std.specs.Prelude.{◌≡◌, ◌<◌, min, length, drop};
+ghost use Rattle.std.specs.Prelude.{◌≡◌, ◌<◌, min, length, drop, Some, IfOk};
+ghost use Rattle.io_edge.specs.Calls.{dealt, offered};
 ghost use Rattle.io_edge.specs.Shelf.{IsNewest, filled, rest_of};
+
+use crate::calls::offered;
+use std::alloc::{AllocError, Global};
 
 /// A file: the bytes of its name, and those that it holds.
 #[derive(Drop)]
 pub struct File {
     pub name: Vec<u8>,
     pub bytes: Vec<u8>,
+}
+
+impl File {
+    /// A file of this name that holds these bytes.
+    pub fn new(alloc: Global, name: &str, bytes: &[u8]) -> Result<File, AllocError>
+        ensures name { IfOk result (λ file. file.name.items ≡ name.now) }
+        ensures bytes { IfOk result (λ file. file.bytes.items ≡ bytes.now) }
+    {
+        Ok(File {
+            name: Vec::from_slice(alloc, name.as_bytes())?,
+            bytes: Vec::from_slice(alloc, bytes)?,
+        })
+    }
 }
 
 /// The next byte to be read: the index of its file, and how many bytes lie before it.
@@ -29,19 +46,21 @@ pub fn newest(files: &[File], name: &[u8]) -> Option<usize>
     found
 }
 
-/// Moves bytes from a place on to the front of the buffer, as many as both allow, and tells how
-/// many. The place is then behind them.
-pub fn read_on(files: &[File], place: &mut Place, buf: &mut [u8]) -> usize
+/// Moves bytes from a place on to the front of the buffer, as many as both allow, but no more than
+/// are doled out, and tells how many. The place is then behind them.
+pub fn read_on(files: &[File], place: &mut Place, most: Option<u32>, buf: &mut [u8]) -> usize
     requires { place.old.file < length files.now }
     ensures file { place.new.file ≡ place.old.file }
     ensures rest { rest_of files.now (Some place.new) ≡
-        drop (length buf.old) (rest_of files.now (Some place.old)) }
-    ensures count { result ≡ min (length buf.old) (length (rest_of files.now (Some place.old))) }
-    ensures buffer { buf.new ≡ filled buf.old (rest_of files.now (Some place.old)) }
+        drop (dealt most (length buf.old)) (rest_of files.now (Some place.old)) }
+    ensures count { result ≡
+        min (length buf.old) (length (offered most (rest_of files.now (Some place.old)))) }
+    ensures buffer { buf.new ≡
+        filled buf.old (offered most (rest_of files.now (Some place.old))) }
 {
     let bytes = files[place.file].bytes.as_slice();
     let start = place.at.min(bytes.len());
-    let count = fill(buf, &bytes[start..]);
+    let count = fill(buf, offered(most, &bytes[start..]));
     place.at = start + count;
     count
 }

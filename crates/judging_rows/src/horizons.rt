@@ -1,6 +1,6 @@
 // Settled frames and periods, as another implementation has them.
 use page_model::Setup;
-use period_frames::{Horizon, needed, needed_of};
+use period_frames::{Horizon, needed, needed_of_layer};
 use sample_pages::scene_of;
 use std::alloc::Global;
 use std::test::Fail;
@@ -61,7 +61,7 @@ fn a_layer_by_its_own_animations(rt: HostRuntime) -> Result<(), Fail> {
         if usize::from(number) >= scene.layers.len() {
             return Err(Fail::from("no such layer"));
         }
-        let found = needed_of(&scene, &setup, number);
+        let found = needed_of_layer(&scene, &setup, number);
         assert_eq!(rt; found, Some(Horizon { settled, period }), "{number}");
     }
     Ok(())

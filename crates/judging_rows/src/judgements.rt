@@ -25,7 +25,7 @@ const PASSED: [(&str, u32); 2] = [
 fn pages_that_pass(rt: HostRuntime) -> Result<(), Fail> {
     for (style, wanted) in PASSED.iter() {
         let passes = match judged(rt.alloc(), style)? {
-            Judgement::Pass { frames } => frames == *wanted,
+            Judgement::Pass { frames, apart } => frames == *wanted && !apart,
             _ => false,
         };
         assert!(rt; passes, "{wanted}");

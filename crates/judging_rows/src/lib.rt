@@ -25,6 +25,10 @@ mod moves;
 #[cfg(test)]
 mod opening;
 #[cfg(test)]
+mod parts;
+#[cfg(test)]
+mod rates;
+#[cfg(test)]
 mod texts;
 #[cfg(test)]
 mod verdicts;

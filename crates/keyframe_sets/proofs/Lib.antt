@@ -1,4 +1,4 @@
 mod AroundLemmas
 mod IntervalLemmas
-mod StopLemmas
+pub mod StopLemmas
 mod WholeLemmas

@@ -15,8 +15,8 @@ pub struct Stop {
     pub easing: Option<Easing>,
 }
 
-/// A number for each property.
-fn number_of(prop: Prop) -> u8
+/// A number for each property, by which two are compared.
+pub fn number_of(prop: Prop) -> u8
     ensures { result ≡ definition.number_of prop }
 {
     match prop {

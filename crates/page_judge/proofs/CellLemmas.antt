@@ -4,9 +4,9 @@ use Rattle.page_model.specs.declared.scene.Scene.{Scene}
 use Rattle.page_model.specs.declared.setup.Setup.{Setup}
 use Rattle.page_model.specs.Cells.{AreEdges, cells_between}
 use Rattle.page_model.specs.Enclosure.{own}
-use Rattle.cell_flags.proofs.RunLemmas.{runs-met}
+use Rattle.cell_laws.proofs.RunLemmas.{runs-met}
 use Rattle.region_split.specs.Cutting.{AreOwnCuts}
-use Rattle.region_split.proofs.RisingLemmas.{rising-unique}
+use Rattle.cell_laws.proofs.RisingLemmas.{rising-unique}
 use Rattle.page_judge.proofs.StableLemmas.{nat-stable}
 
 edges-same : (size : ℕ) (Cut : ℕ → Type 0) (edges others : List ℕ) → AreEdges size Cut edges → AreEdges size Cut others → edges ≡ others

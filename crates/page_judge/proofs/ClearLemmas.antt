@@ -38,9 +38,9 @@ never-enclosed scene setup start x y (inr (inl some)) enclosed = enclosed.widely
 never-enclosed scene setup start x y (inr (inr exact)) enclosed = enclosed.inexact exact
 
 pub clear-decided : ClearScenesAreDecided
-clear-decided scene setup (Pass frames) counts clear is = tt
+clear-decided scene setup (Pass frames apart) counts clear is = tt
 clear-decided scene setup (Fail w) counts clear is = tt
 clear-decided scene setup Frames counts clear is =
-    few-more setup (all_animations scene) counts.needed counts.is_needed counts.few is
+    few-more setup (all_animations scene) counts.needed counts.is_needed counts.few is.beyond
 clear-decided scene setup (Work cells frames) counts clear is = never-much scene setup cells frames counts is
 clear-decided scene setup (Enclosure start x y) counts clear is = never-enclosed scene setup start x y clear is

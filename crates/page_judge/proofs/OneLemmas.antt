@@ -1,24 +1,27 @@
 -- The answers exclude each other.
-use Rattle.std.proofs.Common.{◌≡◌, ℕ, ℤ, ◌*◌, ◌<◌, ◌≤◌, List, arith, subst, sym}
+use Rattle.std.proofs.Common.{◌≡◌, ℕ, ℤ, ◌*◌, ◌<◌, ◌≤◌, Bool, true, false, List, arith, refl, subst, sym}
 use Rattle.page_model.specs.declared.animation.Anim.{Anim}
 use Rattle.page_model.specs.declared.scene.Scene.{Scene}
 use Rattle.page_model.specs.declared.setup.Setup.{Setup}
 use Rattle.page_model.specs.declared.witness.Witness.{Witness}
 use Rattle.page_model.specs.Cells.{cells_between, work_limit}
+use Rattle.page_model.specs.Colour.{IsSafeScene}
 use Rattle.page_model.specs.Enclosure.{LooseRun, own}
 use Rattle.page_model.specs.Horizon.{IsNeeded, all_animations, frames_for}
 use Rattle.page_model.specs.TintOf.{IsLooseRunIn, tints_of}
 use Rattle.page_model.specs.Window.{IsPossiblyBad, IsPossiblyFlagged, IsSurelyBad, IsSurelyFlagged}
 use Rattle.horizon_laws.proofs.LeastLemmas.{IsLeast-unique}
+use Rattle.apart_laws.proofs.OneLemmas.{one-parting}
 use Rattle.period_frames.specs.Needed.{NeedsMore}
 use Rattle.region_split.specs.Cutting.{Edges, IsCut, IsWork}
 use Rattle.state_laws.proofs.RunLemmas.{run-met}
+use Rattle.sweep.specs.Apart.{IsPassApart}
 use Rattle.sweep.specs.Marks.{CountsFlagged}
-use Rattle.sweep.specs.Verdicts.{IsPossibleMost, IsSureMost, IsTooMuch}
+use Rattle.sweep.specs.Verdicts.{IsPossibleMost, IsSureMost, IsTooMuch, NoneEver}
 use Rattle.wide_laws.proofs.LooseLemmas.{loose_run-met}
 use Rattle.page_judge.specs.declared.types.Judgement.{Judgement}
 use Rattle.page_judge.specs.declared.types.Judgement.TheVariants.{Pass, Fail, Frames, Work, Enclosure}
-use Rattle.page_judge.specs.Judgement.{IsEnclosed, IsFail, IsJudgement, IsNeitherPassNorEnclosure, IsNoPass, IsPass, IsPastFrames, IsPastWork, IsWithinBounds, OneAnswer, OneJudgement, TellSame}
+use Rattle.page_judge.specs.Judgement.{IsEnclosed, IsFail, IsJudgement, IsNeitherPassNorEnclosure, IsNoPass, IsPassBy, IsPastFrames, IsPastWork, IsWithinBounds, OneAnswer, OneJudgement, TellSame}
 use Rattle.page_judge.proofs.CellLemmas.{cells-same}
 use Rattle.page_judge.proofs.PlaceLemmas.{counts-same, places-same, start-unique}
 
@@ -113,56 +116,99 @@ encloses-same scene setup start other_start x y other_x other_y one other =
     (same, place.0, place.1)
 
 -- what excludes what
-bounds-frames : (scene : Scene) (setup : Setup) (needed : ℕ) → IsWithinBounds scene setup needed → IsPastFrames scene setup → ⊥
-bounds-frames scene setup needed bounds past =
-    few-more setup (all_animations scene) needed bounds.is_needed bounds.few past
+bounds-beyond : (scene : Scene) (setup : Setup) (needed : ℕ) → IsWithinBounds scene setup needed → NeedsMore setup (all_animations scene) → ⊥
+bounds-beyond scene setup needed bounds more =
+    few-more setup (all_animations scene) needed bounds.is_needed bounds.few more
 
-work-frames : (scene : Scene) (setup : Setup) (cells frames : ℕ) → IsPastWork scene setup cells frames → IsPastFrames scene setup → ⊥
-work-frames scene setup cells frames work past =
-    few-more setup (all_animations scene) work.needed work.is_needed work.few past
+work-beyond : (scene : Scene) (setup : Setup) (cells frames : ℕ) → IsPastWork scene setup cells frames
+    → NeedsMore setup (all_animations scene) → ⊥
+work-beyond scene setup cells frames work more =
+    few-more setup (all_animations scene) work.needed work.is_needed work.few more
 
-pass-fail : (scene : Scene) (setup : Setup) (frames : ℕ) (w : Witness) → IsPass scene setup frames → IsFail scene setup w → ⊥
-pass-fail scene setup frames w pass fail = pass.none_surely w.start w.x w.y fail.first.bad
+-- a page that is judged region by region passes with one number of frames, and else stays undecided
+apart-same : (scene : Scene) (setup : Setup) (frames others : ℕ) → IsPassApart scene setup frames → IsPassApart scene setup others
+    → frames ≡ others
+apart-same scene setup frames others one other = one-parting.one scene setup frames others one.apart other.apart
 
-pass-enclosed : (scene : Scene) (setup : Setup) (frames start : ℕ) (x y : ℤ) → IsPass scene setup frames → IsEnclosed scene setup start x y → ⊥
-pass-enclosed scene setup frames start x y pass enclosed = pass.none_possibly start x y enclosed.first.bad
+apart-past : (scene : Scene) (setup : Setup) (frames : ℕ) → IsPassApart scene setup frames → IsPastFrames scene setup → ⊥
+apart-past scene setup frames one past = one-parting.excluded scene setup frames one.apart past.not_apart
+
+-- a pass, whichever, has no window that is surely or possibly bad, and is safe
+none_surely-by : (scene : Scene) (setup : Setup) (frames : ℕ) (apart : Bool) → IsPassBy scene setup frames apart
+    → NoneEver (IsSurelyBad own scene setup)
+none_surely-by scene setup frames false pass = pass.none_surely
+none_surely-by scene setup frames true pass = pass.for_ever.none_surely
+
+none_possibly-by : (scene : Scene) (setup : Setup) (frames : ℕ) (apart : Bool) → IsPassBy scene setup frames apart
+    → NoneEver (IsPossiblyBad own scene setup)
+none_possibly-by scene setup frames false pass = pass.none_possibly
+none_possibly-by scene setup frames true pass = pass.for_ever.none_possibly
+
+safe-by : (scene : Scene) (setup : Setup) (frames : ℕ) (apart : Bool) → IsPassBy scene setup frames apart → IsSafeScene scene setup
+safe-by scene setup frames false pass = pass.safe
+safe-by scene setup frames true pass = pass.for_ever.safe
+
+-- of two passes both are judged alike
+passes-same : (scene : Scene) (setup : Setup) (frames others : ℕ) (apart also : Bool) → IsPassBy scene setup frames apart
+    → IsPassBy scene setup others also → (frames ≡ others) × (apart ≡ also)
+passes-same scene setup frames others false false one other =
+    (needed-unique setup (all_animations scene) frames others one.bounds.is_needed other.bounds.is_needed, refl)
+passes-same scene setup frames others false true one other = absurd (bounds-beyond scene setup frames one.bounds other.beyond)
+passes-same scene setup frames others true false one other = absurd (bounds-beyond scene setup others other.bounds one.beyond)
+passes-same scene setup frames others true true one other = (apart-same scene setup frames others one other, refl)
+
+pass-past : (scene : Scene) (setup : Setup) (frames : ℕ) (apart : Bool) → IsPassBy scene setup frames apart → IsPastFrames scene setup → ⊥
+pass-past scene setup frames false pass past = bounds-beyond scene setup frames pass.bounds past.beyond
+pass-past scene setup frames true pass past = apart-past scene setup frames pass past
+
+pass-work : (scene : Scene) (setup : Setup) (frames cells others : ℕ) (apart : Bool) → IsPassBy scene setup frames apart
+    → IsPastWork scene setup cells others → ⊥
+pass-work scene setup frames cells others false pass work = bounds-much scene setup frames cells others pass.bounds work
+pass-work scene setup frames cells others true pass work = work-beyond scene setup cells others work pass.beyond
+
+pass-fail : (scene : Scene) (setup : Setup) (frames : ℕ) (apart : Bool) (w : Witness) → IsPassBy scene setup frames apart
+    → IsFail scene setup w → ⊥
+pass-fail scene setup frames apart w pass fail = none_surely-by scene setup frames apart pass w.start w.x w.y fail.first.bad
+
+pass-enclosed : (scene : Scene) (setup : Setup) (frames start : ℕ) (apart : Bool) (x y : ℤ) → IsPassBy scene setup frames apart
+    → IsEnclosed scene setup start x y → ⊥
+pass-enclosed scene setup frames start apart x y pass enclosed = none_possibly-by scene setup frames apart pass start x y enclosed.first.bad
 
 fail-enclosed : (scene : Scene) (setup : Setup) (w : Witness) (start : ℕ) (x y : ℤ) → IsFail scene setup w → IsEnclosed scene setup start x y → ⊥
 fail-enclosed scene setup w start x y fail enclosed = enclosed.none_surely w.start w.x w.y fail.first.bad
 
 pub one-answer : OneAnswer
-one-answer scene setup (Pass frames) (Pass others) one other =
-    needed-unique setup (all_animations scene) frames others one.bounds.is_needed other.bounds.is_needed
-one-answer scene setup (Pass frames) (Fail w) one other = pass-fail scene setup frames w one other
-one-answer scene setup (Pass frames) Frames one other = bounds-frames scene setup frames one.bounds other
-one-answer scene setup (Pass frames) (Work cells others) one other = bounds-much scene setup frames cells others one.bounds other
-one-answer scene setup (Pass frames) (Enclosure start x y) one other = pass-enclosed scene setup frames start x y one other
-one-answer scene setup (Fail w) (Pass frames) one other = pass-fail scene setup frames w other one
+one-answer scene setup (Pass frames apart) (Pass others also) one other = passes-same scene setup frames others apart also one other
+one-answer scene setup (Pass frames apart) (Fail w) one other = pass-fail scene setup frames apart w one other
+one-answer scene setup (Pass frames apart) Frames one other = pass-past scene setup frames apart one other
+one-answer scene setup (Pass frames apart) (Work cells others) one other = pass-work scene setup frames cells others apart one other
+one-answer scene setup (Pass frames apart) (Enclosure start x y) one other = pass-enclosed scene setup frames start apart x y one other
+one-answer scene setup (Fail w) (Pass frames apart) one other = pass-fail scene setup frames apart w other one
 one-answer scene setup (Fail w) (Fail v) one other = fails-same scene setup w v one other
-one-answer scene setup (Fail w) Frames one other = bounds-frames scene setup one.needed one.bounds other
+one-answer scene setup (Fail w) Frames one other = bounds-beyond scene setup one.needed one.bounds other.beyond
 one-answer scene setup (Fail w) (Work cells frames) one other = bounds-much scene setup one.needed cells frames one.bounds other
 one-answer scene setup (Fail w) (Enclosure start x y) one other = fail-enclosed scene setup w start x y one other
-one-answer scene setup Frames (Pass frames) one other = bounds-frames scene setup frames other.bounds one
-one-answer scene setup Frames (Fail w) one other = bounds-frames scene setup other.needed other.bounds one
+one-answer scene setup Frames (Pass frames apart) one other = pass-past scene setup frames apart other one
+one-answer scene setup Frames (Fail w) one other = bounds-beyond scene setup other.needed other.bounds one.beyond
 one-answer scene setup Frames Frames one other = tt
-one-answer scene setup Frames (Work cells frames) one other = work-frames scene setup cells frames other one
-one-answer scene setup Frames (Enclosure start x y) one other = bounds-frames scene setup other.needed other.bounds one
-one-answer scene setup (Work cells frames) (Pass others) one other = bounds-much scene setup others cells frames other.bounds one
+one-answer scene setup Frames (Work cells frames) one other = work-beyond scene setup cells frames other one.beyond
+one-answer scene setup Frames (Enclosure start x y) one other = bounds-beyond scene setup other.needed other.bounds one.beyond
+one-answer scene setup (Work cells frames) (Pass others apart) one other = pass-work scene setup others cells frames apart other one
 one-answer scene setup (Work cells frames) (Fail w) one other = bounds-much scene setup other.needed cells frames other.bounds one
-one-answer scene setup (Work cells frames) Frames one other = work-frames scene setup cells frames one other
+one-answer scene setup (Work cells frames) Frames one other = work-beyond scene setup cells frames one other.beyond
 one-answer scene setup (Work cells frames) (Work other_cells others) one other = much-same scene setup cells frames other_cells others one other
 one-answer scene setup (Work cells frames) (Enclosure start x y) one other = bounds-much scene setup other.needed cells frames other.bounds one
-one-answer scene setup (Enclosure start x y) (Pass frames) one other = pass-enclosed scene setup frames start x y other one
+one-answer scene setup (Enclosure start x y) (Pass frames apart) one other = pass-enclosed scene setup frames start apart x y other one
 one-answer scene setup (Enclosure start x y) (Fail w) one other = fail-enclosed scene setup w start x y other one
-one-answer scene setup (Enclosure start x y) Frames one other = bounds-frames scene setup one.needed one.bounds other
+one-answer scene setup (Enclosure start x y) Frames one other = bounds-beyond scene setup one.needed one.bounds other.beyond
 one-answer scene setup (Enclosure start x y) (Work cells frames) one other = bounds-much scene setup one.needed cells frames one.bounds other
 one-answer scene setup (Enclosure start x y) (Enclosure other_start other_x other_y) one other =
     encloses-same scene setup start other_start x y other_x other_y one other
 
 -- a window that is bad or possibly bad, wherever it starts, excludes a pass
 no-pass : (scene : Scene) (setup : Setup) (judgement : Judgement) → IsJudgement scene setup judgement
-    → ((frames : ℕ) → IsPass scene setup frames → ⊥) → IsNoPass judgement
-no-pass scene setup (Pass frames) is never = never frames is
+    → ((frames : ℕ) (apart : Bool) → IsPassBy scene setup frames apart → ⊥) → IsNoPass judgement
+no-pass scene setup (Pass frames apart) is never = never frames apart is
 no-pass scene setup (Fail w) is never = tt
 no-pass scene setup Frames is never = tt
 no-pass scene setup (Work cells frames) is never = tt
@@ -171,7 +217,7 @@ no-pass scene setup (Enclosure start x y) is never = tt
 -- and one that is surely bad excludes an enclosure too
 neither : (scene : Scene) (setup : Setup) (judgement : Judgement) (start : ℕ) (x y : ℤ) → IsJudgement scene setup judgement
     → IsSurelyBad own scene setup start x y → IsNeitherPassNorEnclosure judgement
-neither scene setup (Pass frames) start x y is surely = is.none_surely start x y surely
+neither scene setup (Pass frames apart) start x y is surely = none_surely-by scene setup frames apart is start x y surely
 neither scene setup (Fail w) start x y is surely = tt
 neither scene setup Frames start x y is surely = tt
 neither scene setup (Work cells frames) start x y is surely = tt
@@ -180,9 +226,9 @@ neither scene setup (Enclosure other across down) start x y is surely = is.none_
 pub one-judgement : OneJudgement
 one-judgement = record {
   same = one-answer;
-  bad = λ scene setup judgement start x y is bad.
-      no-pass scene setup judgement is (λ frames pass. run-met scene setup start (λ run runs. pass.safe start x y run runs (bad run runs)));
-  possibly = λ scene setup judgement start x y is possibly.
-      no-pass scene setup judgement is (λ frames pass. pass.none_possibly start x y possibly);
+  bad = λ scene setup judgement start x y is bad. no-pass scene setup judgement is
+      (λ frames apart pass. run-met scene setup start (λ run runs. safe-by scene setup frames apart pass start x y run runs (bad run runs)));
+  possibly = λ scene setup judgement start x y is possibly. no-pass scene setup judgement is
+      (λ frames apart pass. none_possibly-by scene setup frames apart pass start x y possibly);
   surely = neither;
 }

@@ -3,7 +3,7 @@ use Rattle.std.proofs.Common.{ℕ, ◌-◌, ◌*◌, ◌<◌, ◌≤◌, List, a
 use Rattle.page_model.specs.Cells.{cells_between}
 use Rattle.page_model.specs.Horizon.{frames_for}
 use Rattle.region_split.specs.Cutting.{AreSoundBoth}
-use Rattle.sweep.specs.Verdicts.{IsReady, Judged}
+use Rattle.sweep.specs.Verdicts.{IsReadyWhole, Judged}
 use Rattle.witness_make.specs.Made.{AreCutsOf}
 
 some-cells : (xs ys : List ℕ) → AreSoundBoth xs ys → 1 ≤ cells_between xs ys
@@ -19,7 +19,7 @@ few-frames cells frames some few =
     let product = mul-le-mul_right {m = 1} {n = cells} frames some in
     omega (arith, product, few)
 
-pub ready-cuts : (judged : Judged) (start : ℕ) → IsReady judged → start < judged.needed
+pub ready-cuts : (judged : Judged) (start : ℕ) → IsReadyWhole judged → start < judged.needed
     → AreCutsOf judged.scene judged.setup start judged.cuts
 ready-cuts judged start ready before = record {
   frames = frames_for judged.setup judged.needed;

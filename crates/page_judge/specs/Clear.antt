@@ -30,7 +30,7 @@ IsClear scene setup =
 
 -- a scene passes, or fails
 abbrev pub IsPassOrFail : Judgement → Type 0
-IsPassOrFail (Pass frames) = Unit {0}
+IsPassOrFail (Pass frames apart) = Unit {0}
 IsPassOrFail (Fail w) = Unit {0}
 IsPassOrFail other = ⊥
 

@@ -1,5 +1,5 @@
 -- What a scene comes to at a setup: what the judge says, with a witness where it is bad.
-use Rattle.std.specs.Prelude.{ℕ, ℤ, Bool, false, ◌≡◌, ◌≤◌, IsTrue}
+use Rattle.std.specs.Prelude.{ℕ, ℤ, Bool, false, true, ◌≡◌, ◌≤◌, IsTrue}
 use Rattle.page_model.specs.declared.scene.Scene.{Scene}
 use Rattle.page_model.specs.declared.setup.Setup.{Setup}
 use Rattle.page_model.specs.declared.witness.Witness.{Witness}
@@ -10,10 +10,11 @@ use Rattle.page_model.specs.TintOf.{IsLooseRunIn, tints_of}
 use Rattle.page_model.specs.Window.{IsPossiblyBad, IsSurelyBad, IsSurelyFlagged}
 use Rattle.enclosure_laws.specs.CauseLaws.{IsLeftOpen}
 use Rattle.enclosure_laws.specs.ExactPageLaws.{IsExactPage}
-use Rattle.period_frames.specs.Needed.{NeedsMore}
 use Rattle.region_split.specs.Cutting.{Edges, IsCut}
 use Rattle.sweep.specs.declared.types.Reason.{Reason}
 use Rattle.sweep.specs.declared.types.Reason.TheVariants as reason
+use Rattle.sweep.specs.Apart.{IsPassApart}
+pub use Rattle.sweep.specs.Apart.{IsPastFrames}
 use Rattle.sweep.specs.Marks.{CountsFlagged}
 use Rattle.sweep.specs.Verdicts.{IsFirstBad, IsPossibleMost, IsSureMost, IsTooMuch, NoneEver}
 use Rattle.witness_laws.specs.Acceptance.{IsAccepted}
@@ -34,6 +35,11 @@ pub record IsPass (scene : Scene) (setup : Setup) (frames : ℕ) : Type 0 where
   pub none_surely : NoneEver (IsSurelyBad own scene setup)
   pub none_possibly : NoneEver (IsPossiblyBad own scene setup)
   pub safe : IsSafeScene scene setup
+
+-- the same region by region, where the windows of the whole page are too many
+abbrev pub IsPassBy : Scene → Setup → ℕ → Bool → Type 0
+IsPassBy scene setup frames false = IsPass scene setup frames
+IsPassBy scene setup frames true = IsPassApart scene setup frames
 
 -- The witness tells the first window of all that is surely bad, and the first position where it is so most; its area is the number of
 -- surely flagged pixels there. It meets all nine conditions, it is in form, so that its text reads as it, and the window is bad.
@@ -59,10 +65,6 @@ pub record IsEnclosed (scene : Scene) (setup : Setup) (start : ℕ) (x y : ℤ) 
   pub widely : IsLeftOpen wide scene setup start x y
   pub inexact : IsExactPage scene setup → ⊥
 
--- more windows have to be looked at than are
-abbrev pub IsPastFrames : Scene → Setup → Type 0
-IsPastFrames scene setup = NeedsMore setup (all_animations scene)
-
 -- cells times frames are too many
 abbrev pub IsPastWork : Scene → Setup → ℕ → ℕ → Type 0
 IsPastWork scene setup cells frames = IsTooMuch scene setup cells frames
@@ -75,7 +77,7 @@ judgement_for (reason.Enclosure start x y) = Enclosure start x y
 
 -- what a scene comes to, and why
 abbrev pub IsJudgement : Scene → Setup → Judgement → Type 0
-IsJudgement scene setup (Pass frames) = IsPass scene setup frames
+IsJudgement scene setup (Pass frames apart) = IsPassBy scene setup frames apart
 IsJudgement scene setup (Fail w) = IsFail scene setup w
 IsJudgement scene setup Frames = IsPastFrames scene setup
 IsJudgement scene setup (Work cells frames) = IsPastWork scene setup cells frames
@@ -90,7 +92,7 @@ pub record TellSame (one other : Witness) : Type 0 where
 
 -- two answers are the same: the same cause, and the same numbers
 abbrev pub IsSameAnswer : Judgement → Judgement → Type 0
-IsSameAnswer (Pass frames) (Pass others) = frames ≡ others
+IsSameAnswer (Pass frames apart) (Pass others also) = (frames ≡ others) × (apart ≡ also)
 IsSameAnswer (Fail w) (Fail other) = TellSame w other
 IsSameAnswer Frames Frames = Unit {0}
 IsSameAnswer (Work cells frames) (Work other_cells others) = (cells ≡ other_cells) × (frames ≡ others)
@@ -105,11 +107,11 @@ OneAnswer =
 
 -- an answer is no pass, and no enclosure either
 abbrev pub IsNoPass : Judgement → Type 0
-IsNoPass (Pass frames) = ⊥
+IsNoPass (Pass frames apart) = ⊥
 IsNoPass other = Unit {0}
 
 abbrev pub IsNeitherPassNorEnclosure : Judgement → Type 0
-IsNeitherPassNorEnclosure (Pass frames) = ⊥
+IsNeitherPassNorEnclosure (Pass frames apart) = ⊥
 IsNeitherPassNorEnclosure (Enclosure start x y) = ⊥
 IsNeitherPassNorEnclosure other = Unit {0}
 

@@ -4,7 +4,7 @@ ghost use Rattle.page_model.specs.ValidScene.{IsValid};
 ghost use Rattle.page_judge.specs.Clear.{ClearScenesAreDecided, WorkIsTooMuchWidely};
 ghost use Rattle.page_judge.specs.Judgement.{IsFail, IsJudgement, OneJudgement, judgement_for};
 ghost use Rattle.sweep.specs.Verdicts as verdict;
-ghost use Rattle.sweep.specs.Verdicts.{IsReady};
+ghost use Rattle.sweep.specs.Verdicts.{IsReady, IsReadyWhole};
 
 use crate::types::Judgement;
 use page_model::{BadWindow, NoMemory, Scene, Setup, Witness};
@@ -19,6 +19,7 @@ use witness_make::make;
 /// `NoMemory` where memory is refused.
 fn witness_of(alloc: Global, sweep: &Sweep, bad: BadWindow) -> Result<Witness, NoMemory>
     requires ready { IsReady sweep.now }
+    requires whole { IsReadyWhole sweep.now }
     requires failed { verdict.IsFail sweep.now.scene sweep.now.setup sweep.now.needed bad.start bad.x bad.y }
     ensures { IfOk result (IsFail sweep.now.scene sweep.now.setup) }
 {
@@ -45,9 +46,8 @@ fn judgement_of(alloc: Global, mut sweep: Sweep) -> Result<Judgement, NoMemory>
     requires { IsReady sweep }
     ensures { IfOk result (IsJudgement sweep.scene sweep.setup) }
 {
-    let verdict = sweep.run(alloc)?;
-    match verdict {
-        Verdict::Pass { frames, .. } => Ok(Judgement::Pass { frames }),
+    match sweep.run() {
+        Verdict::Pass { frames, apart } => Ok(Judgement::Pass { frames, apart }),
         Verdict::Fail(bad) => Ok(Judgement::Fail(witness_of(alloc, &sweep, bad)?)),
         Verdict::Undecided(reason) => Ok(undecided(reason)),
     }

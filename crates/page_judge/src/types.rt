@@ -4,11 +4,12 @@ use page_model::Witness;
 /// What a scene comes to at a setup.
 #[derive(Drop)]
 pub enum Judgement {
-    /// No window is bad, from the first frame on for ever; so many windows were looked at.
-    Pass { frames: u32 },
+    /// No window is bad, from the first frame on for ever; so many windows were looked at. `apart` tells whether each region was judged
+    /// in the windows that it needs by itself.
+    Pass { frames: u32, apart: bool },
     /// A window is bad.
     Fail(Witness),
-    /// More than 100,000 windows would have to be looked at.
+    /// More than 100,000 windows would have to be looked at, and the regions can't be judged by themselves.
     Frames,
     /// Cells times frames are more than 4,194,304.
     Work { cells: u32, frames: u32 },

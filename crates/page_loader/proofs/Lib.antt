@@ -1,4 +1,5 @@
 pub mod LoadLemmas
+pub mod LoadOutcome
 pub mod OneLoading
 pub mod OneOrder
 pub mod PageReady

@@ -47,7 +47,7 @@ pub all_read : (text : List ℕ) (elements : List Element) (inline : List (List 
 all_read text elements inline are = record { one_each = are.so_many; spelled = are.spelled }
 
 -- the next one has the first fault
-first_here : (text : List ℕ) (elements : List Element) (inline : List (List Decl)) (count : ℕ) (element : Element) (fault : SheetFault)
+pub first_here : (text : List ℕ) (elements : List Element) (inline : List (List Decl)) (count : ℕ) (element : Element) (fault : SheetFault)
     → AreSoFar text elements inline count → slice_get elements count ≡ Some element → IsInlineFault text element.style fault → IsFirstInline text elements fault
 first_here text elements inline count element fault are here is = record {
   number = count;

@@ -7,9 +7,9 @@ use Rattle.std.specs.List.{items_where_true}
 use Rattle.page_model.specs.declared.setup.Setup.{Setup}
 use Rattle.page_model.specs.declared.scene.Layer.{Layer}
 use Rattle.page_model.specs.declared.scene.Scene.{Scene}
-use Rattle.page_model.specs.Cells.{AreCuts, cells_between, work_limit}
+use Rattle.page_model.specs.Cells.{AreCuts, IsLooseRunBelow, cells_between, work_limit}
 use Rattle.page_model.specs.Colour.{body_colour}
-use Rattle.page_model.specs.Enclosure.{LooseRun, IsLooseStateAt, own, surely_not}
+use Rattle.page_model.specs.Enclosure.{LooseRun, own, surely_not}
 use Rattle.page_model.specs.Flash.{HasManyFlagged}
 use Rattle.page_model.specs.Horizon.{IsNeeded, animations_of, all_animations, frames_for}
 use Rattle.page_model.specs.TintOf.{covers_surely, tints_of}
@@ -19,11 +19,9 @@ use Rattle.page_model.specs.Window.{IsPossiblyFlagged}
 abbrev pub frame_limit : ℕ
 frame_limit = 100000
 
--- a run of loose states, of all layers by the own kind, in all frames
+-- a run of loose states, of all layers by the own kind, in all frames that may be needed
 abbrev pub IsOwnRun : Scene → Setup → LooseRun → Type 0
-IsOwnRun scene setup run =
-    (frame number : ℕ) (layer : Layer) → slice_get scene.layers number ≡ Some layer
-    → IsLooseStateAt own scene setup frame layer (run frame number)
+IsOwnRun scene setup run = IsLooseRunBelow own scene setup (frames_for setup frame_limit) run
 
 -- a number of needed frames for each layer
 abbrev pub AreNeeded : Scene → Setup → (ℕ → ℕ) → Type 0
@@ -68,10 +66,8 @@ pub record IsFlaggedInCell (scene : Scene) (setup : Setup) (run : LooseRun) (xs 
   pub needed : start < cell_needed i j
   pub flagged : IsPossiblyFlagged own (tints_of scene run) setup start column row
 
--- the separate judgement holds of a scene
-pub record IsSeparatelySafe (scene : Scene) (setup : Setup) : Type 0 where
-  pub run : LooseRun
-  pub is_run : IsOwnRun scene setup run
+-- by the states of a run the separate judgement holds of a scene, and no cell needs more frames than so many
+pub record IsSeparatelySafe (scene : Scene) (setup : Setup) (run : LooseRun) (greatest : ℕ) : Type 0 where
   pub beyond : (needed : ℕ) → IsNeeded setup (all_animations scene) needed → frame_limit < needed
   pub needed_of : ℕ → ℕ
   pub layers_need : AreNeeded scene setup needed_of
@@ -82,9 +78,15 @@ pub record IsSeparatelySafe (scene : Scene) (setup : Setup) : Type 0 where
   pub cell_needed : ℕ → ℕ → ℕ
   pub cells_need : (i j : ℕ) → i + 1 < length xs → j + 1 < length ys
       → IsCellNeeded scene setup run needed_of (slice_index xs i) (slice_index ys j) (cell_needed i j)
-  pub greatest : ℕ
   pub is_greatest : (i j : ℕ) → i + 1 < length xs → j + 1 < length ys → cell_needed i j ≤ greatest
   pub is_some : (i : ℕ) × (j : ℕ) × (i + 1 < length xs) × (j + 1 < length ys) × (cell_needed i j ≡ greatest)
   pub cells_bounded : greatest ≤ frame_limit
   pub work_bounded : cells_between xs ys * frames_for setup greatest ≤ work_limit
   pub few_flagged : (x y : ℤ) → HasManyFlagged (IsFlaggedInCell scene setup run xs ys cell_needed) setup x y → ⊥
+
+-- it holds, or it doesn't, by the states of the own kind, whatever they are
+abbrev pub IsJudgedApart : Scene → Setup → ℕ → Type 0
+IsJudgedApart scene setup greatest = (run : LooseRun) → IsOwnRun scene setup run → IsSeparatelySafe scene setup run greatest
+
+abbrev pub IsNotApart : Scene → Setup → Type 0
+IsNotApart scene setup = (run : LooseRun) (greatest : ℕ) → IsOwnRun scene setup run → IsSeparatelySafe scene setup run greatest → ⊥

@@ -4,4 +4,5 @@ pub mod ElementLemmas
 pub mod PageLemmas
 pub mod NameLemmas
 pub mod PageBody
+pub mod PageOutcome
 pub mod PagePlaces

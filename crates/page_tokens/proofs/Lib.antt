@@ -1,3 +1,4 @@
+pub mod HtmlOutcome
 pub mod HtmlPieceLemmas
 pub mod HtmlRunLemmas
 pub mod HtmlTagLemmas

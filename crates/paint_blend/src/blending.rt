@@ -24,7 +24,7 @@ fn combined(cover: u8, alpha: u8) -> u8
     (product / 255) as u8
 }
 
-// The ends of both together.
+/// The ends of both together.
 pub fn combined_span(cover: Span, alpha: Span) -> Span
     ensures { span_as result ≡ definition.combined_span (span_as cover) (span_as alpha) }
 {
@@ -51,7 +51,7 @@ fn blended_at(source: Span, alpha: u8, backdrop: Span) -> Span
     }
 }
 
-// Two spans, and all that lies between them.
+/// Two spans, and all that lies between them.
 pub fn hull(a: Span, b: Span) -> Span
     ensures { span_as result ≡ definition.hull (span_as a) (span_as b) }
 {
@@ -61,7 +61,7 @@ pub fn hull(a: Span, b: Span) -> Span
     }
 }
 
-// A span over another, over the two ends of alpha too.
+/// A span over another, over the two ends of alpha too.
 pub fn blended_span(source: Span, alpha: Span, backdrop: Span) -> Span
     ensures { span_as result
         ≡ definition.blended_span (span_as source) (span_as alpha) (span_as backdrop) }
@@ -73,7 +73,7 @@ pub fn blended_span(source: Span, alpha: Span, backdrop: Span) -> Span
     hull(first, blended_at(source, alpha.hi, backdrop))
 }
 
-// A loose channel, cover or alpha as a span.
+/// A loose channel, cover or alpha as a span.
 pub fn span_of(loose: Loose) -> Span
     requires { IsInSlot eight_bits (loose_as loose) }
     ensures { span_as result ≡ definition.span_of (loose_as loose) }

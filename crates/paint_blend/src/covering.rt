@@ -7,7 +7,7 @@ ghost use Rattle.frame_state.specs.States.{IsInSlot, IsInSlots, loose_as, state_
 use fix_span::Loose;
 use frame_state::{LayerState, Shown};
 
-// How surely both of two things are so.
+/// How surely both of two things are so.
 pub fn both(first: Shown, second: Shown) -> Shown
     ensures { sureness_of result ≡ definition.both (sureness_of first) (sureness_of second) }
 {
@@ -40,7 +40,7 @@ fn spans(from: Loose, size: Loose, at: u16) -> Shown
     }
 }
 
-// How surely a layer covers a pixel.
+/// How surely a layer covers a pixel.
 pub fn covers(state: &LayerState, x: u16, y: u16) -> Shown
     requires { IsInSlots (state_as state.now) }
     ensures { sureness_of result ≡ definition.covers_surely (state_as state.now) x y }

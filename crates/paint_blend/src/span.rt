@@ -1,6 +1,6 @@
 // The least and the greatest of a channel.
 
-// Two numbers, the first of which is at most the second.
+/// Two numbers, the first of which is at most the second.
 #[derive(Clone, Copy)]
 pub struct Span {
     pub lo: u8,

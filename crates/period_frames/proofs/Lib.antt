@@ -1,3 +1,4 @@
+pub mod ChosenLemmas
 pub mod JoinLemmas
 pub mod MultipleLemmas
 pub mod NeededLemmas

@@ -6,8 +6,8 @@
 //! sum is at most 100,000, and that where no answer comes the sum is more. Windows that start below the sum are all that need
 //! looking at: the clause `for_ever` says that a page is safe where none of them is bad, and that no window at all is surely, or
 //! possibly, bad where none of them is. [`windows_repeat`] is the law that each window has the states of one of them, of each kind.
-//! [`needed_of`] gives the same of one layer's animations, and its clause `repeats` says that behind them the layer by itself does
-//! what it did one period before.
+//! [`needed_of_layer`] gives the same of one layer's animations, and its clause `repeats` says that behind them the layer by itself does
+//! what it did one period before; [`needed_of`] gives it of some layers, and [`Horizon::joined`] of two lots of animations together.
 //!
 //! Periods are joined as least common multiples, and given up as soon as they pass the limit, for they only grow. No memory
 //! is taken. What is seen in those frames is not said here.
@@ -21,5 +21,5 @@ mod repeats;
 mod settling;
 mod windows;
 
-pub use frames::{Horizon, needed, needed_of};
+pub use frames::{Horizon, needed, needed_of, needed_of_layer};
 pub use windows::windows_repeat;

@@ -1,8 +1,12 @@
 // What no clause says: that calls succeed with ample memory, how much a read is offered, and that the
 // ends of the system are the system's.
+ghost use Rattle.std.specs.Prelude.{◌≤◌};
+
 use io_edge::{
-    FileSource, MemorySink, MemorySource, ReadAllFault, StdoutSink, read_all, write_all,
+    FileSource, MemorySink, MemorySource, ReadAllFault, StdoutSink, SureSink, SureSource, read_all,
+    write_all,
 };
+use std::alloc::Global;
 use std::test::Fail;
 
 #[test]
@@ -42,6 +46,59 @@ fn writes_what_fits(rt: HostRuntime) -> Result<(), Fail> {
     assert!(rt; write_all(&mut sink, b"first").is_ok());
     assert!(rt; write_all(&mut sink, b"second").is_err());
     assert_eq!(rt; sink.bytes(), b"firstsec".as_slice());
+    Ok(())
+}
+
+/// What is written of a text that is read and written in pieces of at most so many bytes.
+fn moved_by(alloc: Global, most: u32) -> Result<Vec<u8>, Fail>
+    requires { 1 ≤ most }
+{
+    let mut source = MemorySource::new(alloc);
+    source.add("page", b"in several pieces")?;
+    source.dole(most);
+    let bytes = read_all(alloc, &mut source, "page", 17)?;
+    let mut sink = MemorySink::new(alloc, 17)?;
+    sink.dole(most);
+    write_all(&mut sink, bytes.as_slice())?;
+    Ok(sink.bytes().to_vec(alloc)?)
+}
+
+#[test]
+fn loses_nothing_between_pieces(rt: HostRuntime) -> Result<(), Fail> {
+    let text = b"in several pieces".as_slice();
+    assert_eq!(rt; moved_by(rt.alloc(), 1)?.as_slice(), text);
+    assert_eq!(rt; moved_by(rt.alloc(), 7)?.as_slice(), text);
+    assert_eq!(rt; moved_by(rt.alloc(), 4096)?.as_slice(), text);
+    Ok(())
+}
+
+// One call opens, three give a byte each, and one tells the end.
+#[test]
+fn gives_a_byte_a_call(rt: HostRuntime) -> Result<(), Fail> {
+    for (call, fault) in [(5, Some(ReadAllFault::ReadFault)), (6, None)] {
+        let mut source = MemorySource::new(rt.alloc());
+        source.add("page", b"abc")?;
+        source.dole(1);
+        source.fail_at(call)?;
+        let answer = read_all(rt.alloc(), &mut source, "page", 9);
+        assert_eq!(rt; answer.err(), fault, "at {call}");
+    }
+    Ok(())
+}
+
+#[test]
+fn never_fails(rt: HostRuntime) -> Result<(), Fail> {
+    let mut source = SureSource::new(rt.alloc());
+    source.add("page", b"old")?;
+    source.add("page", b"newer")?;
+    let bytes = read_all(rt.alloc(), &mut source, "page", 5)?;
+    assert_eq!(rt; bytes.as_slice(), b"newer".as_slice());
+    let missing = read_all(rt.alloc(), &mut source, "gone", 5)?;
+    assert_eq!(rt; missing.len(), 0);
+    let mut sink = SureSink::new();
+    assert!(rt; write_all(&mut sink, bytes.as_slice()).is_ok());
+    assert!(rt; write_all(&mut sink, bytes.as_slice()).is_ok());
+    assert_eq!(rt; sink.taken(), 10);
     Ok(())
 }
 

@@ -1,4 +1,3 @@
-pub mod AlikeLemmas
 pub mod CoverLemmas
 pub mod CutLemmas
 pub mod CuttingLemmas
@@ -6,6 +5,5 @@ pub mod EdgeLemmas
 pub mod ListLemmas
 pub mod MarkLemmas
 pub mod RepeatLemmas
-pub mod RisingLemmas
 pub mod StayLemmas
 pub mod StillLemmas

@@ -1,19 +1,23 @@
 // The edges of a scene both ways, and the cells between them.
-ghost use Rattle.std.specs.Prelude.{◌≡◌, ◌+◌, ◌-◌, ◌<◌, ◌≤◌, length, slice_index};
+ghost use Rattle.std.specs.Prelude.{◌≡◌, ◌+◌, ◌-◌, ◌<◌, ◌≤◌, ◌∷◌, [], IfOk, length, slice_index};
 ghost use Rattle.page_model.specs.Cells.{cells_between};
 ghost use Rattle.page_model.specs.ValidScene.{IsValid};
-ghost use Rattle.region_split.specs.Cutting.{IsCutting, IsListedCutting, cell_of};
+ghost use Rattle.region_split.specs.Cutting.{AreListedBoth, IsCutInto, IsCutting, IsListedCutting, cell_of, whole_edges};
+ghost use Rattle.region_split.specs.Marks.{HasFramesOfEach, frames_in};
 ghost use Rattle.region_split.specs.Sound.{AreSound};
 
 use crate::listing::listed;
 use crate::marks::{Marks, marks_of};
 use crate::types::{CutFault, Rect};
-use page_model::{Scene, Setup};
+use page_model::{NoMemory, Scene, Setup};
 use std::alloc::Global;
 use std::marker::Model;
 
 /// The most that cells times frames may be.
 const MOST_WORK: u64 = 4_194_304;
+
+/// The most layers that a valid scene has.
+const MOST_LAYERS: usize = 65;
 
 /// The places between two neighbouring edges.
 #[derive(Clone, Copy)]
@@ -53,8 +57,42 @@ impl Cuts {
         requires limit { frames ≤ 100241 }
         ensures { IsCutting scene.now setup.now frames result }
     {
-        let marks = marks_of(scene, setup, frames);
+        let each = [frames; MOST_LAYERS];
+        let marks = marks_of(scene, setup, &each);
         cut_marked(alloc, &marks, setup, frames)
+    }
+
+    /// The edges of a scene where each box is looked at in its own frames, of which a list has the
+    /// number of each layer.
+    ///
+    /// # Errors
+    ///
+    /// `NoMemory` where memory is refused.
+    pub fn every(
+        alloc: Global,
+        scene: &Scene,
+        setup: &Setup,
+        frames: &[u32],
+    ) -> Result<Cuts, NoMemory>
+        requires valid { IsValid scene.now }
+        requires frames { HasFramesOfEach scene.now frames.now }
+        ensures { IfOk result (IsCutInto scene.now setup.now (frames_in frames.now)) }
+    {
+        let marks = marks_of(scene, setup, frames);
+        edges_at(alloc, &marks, setup)
+    }
+
+    /// The whole viewport as one cell.
+    ///
+    /// # Errors
+    ///
+    /// `NoMemory` where memory is refused.
+    pub fn whole(alloc: Global, setup: &Setup) -> Result<Cuts, NoMemory>
+        ensures { IfOk result (λ cuts. cuts ≡ whole_edges setup.now) }
+    {
+        let xs = ends(alloc, setup.width())?;
+        let ys = ends(alloc, setup.height())?;
+        Ok(Cuts { xs, ys })
     }
 
     /// How many cells there are.
@@ -97,18 +135,36 @@ impl Cuts {
     }
 }
 
+/// The edges at marked places.
+fn edges_at(alloc: Global, marks: &Marks, setup: &Setup) -> Result<Cuts, NoMemory>
+    ensures { IfOk result (λ cuts. AreListedBoth marks.now.columns marks.now.rows setup.now cuts.xs cuts.ys) }
+{
+    let xs = listed(alloc, &marks.columns, setup.width())?;
+    let ys = listed(alloc, &marks.rows, setup.height())?;
+    Ok(Cuts { xs, ys })
+}
+
 /// The edges at marked places, where the cells between them times the frames aren't too many.
 fn cut_marked(alloc: Global, marks: &Marks, setup: &Setup, frames: u32) -> Result<Cuts, CutFault>
     requires { frames ≤ 100241 }
     ensures { IsListedCutting marks.now.columns marks.now.rows setup.now frames result }
 {
-    let xs = listed(alloc, &marks.columns, setup.width())?;
-    let ys = listed(alloc, &marks.rows, setup.height())?;
-    let cells = cells_of(&xs, &ys);
+    let cuts = edges_at(alloc, marks, setup)?;
+    let cells = cuts.cells();
     if u64::from(cells) * u64::from(frames) > MOST_WORK {
         return Err(CutFault::Work { cells });
     }
-    Ok(Cuts { xs, ys })
+    Ok(cuts)
+}
+
+/// The two ends of a side of this size.
+fn ends(alloc: Global, size: u16) -> Result<Vec<u16>, NoMemory>
+    ensures { IfOk result (λ edges. edges.items ≡ 0 ∷ (size ∷ [])) }
+{
+    let mut edges = Vec::with_capacity(alloc, 2)?;
+    edges.push(0)?;
+    edges.push(size)?;
+    Ok(edges)
 }
 
 /// How many cells lie between edges.

@@ -8,7 +8,7 @@ ghost use Rattle.region_split.specs.Moving as definition;
 
 use keyframe_sets::names;
 use page_model::{Anim, KeyframeSet, Prop, Scene, Setup};
-use period_frames::needed_of;
+use period_frames::needed_of_layer;
 
 /// Whether a set names a place or a size.
 fn names_edge(set: &KeyframeSet) -> bool
@@ -55,7 +55,7 @@ pub(crate) fn frames_of(scene: &Scene, setup: &Setup, number: u16, frames: u32) 
     ensures enough { (l : Element) → slice_get scene.now.layers number ≡ Some l
         → AreEnoughFrames scene.now setup.now l frames result }
 {
-    match needed_of(scene, setup, number) {
+    match needed_of_layer(scene, setup, number) {
         Some(horizon) => frames.min(horizon.settled + horizon.period),
         None => frames,
     }

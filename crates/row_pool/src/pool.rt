@@ -1,5 +1,5 @@
 // The pool.
-ghost use Rattle.std.specs.Prelude.{◌≡◌, ◌*◌, ◌^◌, ◌≤◌, IfOk, count_by};
+ghost use Rattle.std.specs.Prelude.{◌≡◌, ◌*◌, ◌^◌, ◌≤◌, IfOk, count_by, length};
 ghost use Rattle.std.specs.Borrow.{sem};
 ghost use Rattle.row_pool.specs.Lending.{LendsRow};
 ghost use Rattle.row_pool.specs.Pools.{IsOut, IsTaking, given_back, opened, row_of};
@@ -104,6 +104,13 @@ impl Pool {
         let width = self.width as usize;
         let start = id.number as usize * width;
         self.words.slice_mut(start..start + width)
+    }
+
+    /// How many rows there are.
+    pub fn rows(&self) -> u32
+        ensures { result ≡ length self.now.rows }
+    {
+        self.rows
     }
 
     /// How many numbers are free.

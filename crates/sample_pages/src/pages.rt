@@ -42,9 +42,19 @@ pub fn scene_of(alloc: Global, style: &str, boxes: &str) -> Result<Scene, LoadFa
     let Ok(page) = page_of(alloc, style, boxes) else {
         return Err(LoadFault::NoMemory);
     };
-    let bytes = page.as_bytes();
-    if bytes.len() > MOST {
+    scene_of_bytes(alloc, page.as_bytes())
+}
+
+/// The scene of a page by its bytes.
+///
+/// # Errors
+///
+/// The first fault of the page; `NoMemory` where memory is refused, or the page is longer than pages are.
+pub fn scene_of_bytes(alloc: Global, page: &[u8]) -> Result<Scene, LoadFault>
+    ensures { IfOk result IsValid }
+{
+    if page.len() > MOST {
         return Err(LoadFault::NoMemory);
     }
-    load(alloc, bytes)
+    load(alloc, page)
 }

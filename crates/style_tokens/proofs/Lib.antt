@@ -1,3 +1,4 @@
+pub mod CssJudged
 pub mod CssReaches
 pub mod CssRuns
 pub mod CssScan

@@ -1,3 +1,5 @@
-pub mod AreaLemmas
-pub mod SideLemmas
+pub mod ApartLemmas
+pub mod FoundLemmas
+pub mod RoomLemmas
+pub mod SweptLemmas
 pub mod VerdictLemmas

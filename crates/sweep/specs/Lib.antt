@@ -1,3 +1,5 @@
+pub mod Apart
 pub mod Marks
+pub mod Swept
 pub mod Told
 pub mod Verdicts

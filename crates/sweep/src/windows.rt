@@ -1,13 +1,17 @@
 // Windows with too many flagged pixels.
-ghost use Rattle.std.specs.Prelude.{◌≡◌, ◌*◌, ◌<◌, ◌≤◌, IfOk, length};
+ghost use Rattle.std.specs.Prelude.{◌≡◌, ◌<◌, ◌≤◌, length};
 ghost use Rattle.page_model.specs.Cells.{cells_between};
-ghost use Rattle.sweep.specs.Told.{AreMarksBefore, IsBestIn, IsFound, IsTold, told};
+ghost use Rattle.page_model.specs.declared.scene.Scene.{Scene as Page};
+ghost use Rattle.page_model.specs.declared.setup.Setup.{Setup as Viewing};
+ghost use Rattle.region_split.specs.Cutting.{Edges};
+ghost use Rattle.sweep.specs.declared.windows.Sort.TheVariants.{Possible, Sure};
+ghost use Rattle.sweep.specs.Swept.{IsFoundIn, IsTold};
+ghost use Rattle.sweep.specs.Told.{AreMarksBefore, IsBestOf, IsFinding, IsLookedAt, told};
 
 use crate::types::{Reason, Verdict};
 use flash_count::Flag;
-use page_model::{BadWindow, NoMemory};
+use page_model::BadWindow;
 use region_split::Cuts;
-use std::alloc::Global;
 use window_area::{Best, greatest};
 
 /// A quarter of the 341 by 256 rectangle, in pixels.
@@ -31,103 +35,129 @@ impl Sort {
     }
 }
 
-/// Marks the cells that are flagged in a window.
-fn mark(sort: Sort, flags: &[Flag], windows: u32, start: u32, marks: &mut [bool])
-    requires all { length flags.now ≡ length marks.old * windows }
-    requires inside { start < windows }
-    ensures { AreMarksBefore sort flags.now windows start (length marks.old) marks.new }
-{
-    for cell in 0..marks.len() {
-        marks[cell] = sort.of(flags[cell * windows as usize + start as usize]);
+/// The first windows of each sort in which the rectangle holds more than a quarter of flagged pixels, of those that
+/// ended so far.
+#[derive(Clone, Copy)]
+pub(crate) struct Found {
+    pub(crate) sure: Option<BadWindow>,
+    pub(crate) possible: Option<BadWindow>,
+}
+
+impl Found {
+    /// The verdict that is told by what was found in so many windows.
+    pub(crate) fn verdict(self, windows: u32) -> Verdict
+        ensures { (scene : Page) (setup : Viewing) (edges : Edges) → IsFoundIn scene setup edges windows self
+            → IsTold scene setup edges windows result }
+    {
+        if let Some(window) = self.sure {
+            return Verdict::Fail(window);
+        }
+        match self.possible {
+            Some(window) => Verdict::Undecided(Reason::Enclosure {
+                start: window.start,
+                x: window.x,
+                y: window.y,
+            }),
+            None => Verdict::Pass {
+                frames: windows,
+                apart: false,
+            },
+        }
     }
 }
 
-/// The most that the rectangle holds of the cells that are flagged in a window.
-fn best_in(
-    sort: Sort,
-    cuts: &Cuts,
-    flags: &[Flag],
-    windows: u32,
-    start: u32,
-    marks: &mut [bool],
-    work: &mut [u32],
-) -> Best
-    requires all { length flags.now ≡ cells_between cuts.now.xs cuts.now.ys * windows }
-    requires inside { start < windows }
+/// Marks the cells that are flagged.
+fn mark(sort: Sort, flags: &[Flag], marks: &mut [bool])
+    requires { length flags.now ≡ length marks.old }
+    ensures { AreMarksBefore sort flags.now (length marks.old) marks.new }
+{
+    for cell in 0..marks.len() {
+        marks[cell] = sort.of(flags[cell]);
+    }
+}
+
+/// The most that the rectangle holds of the cells that are flagged.
+fn best_of(sort: Sort, cuts: &Cuts, flags: &[Flag], marks: &mut [bool], work: &mut [u32]) -> Best
+    requires flags { length flags.now ≡ cells_between cuts.now.xs cuts.now.ys }
     requires marks { length marks.old ≡ cells_between cuts.now.xs cuts.now.ys }
     requires work { length work.old ≡ cells_between cuts.now.xs cuts.now.ys }
-    ensures { IsBestIn sort cuts.now flags.now windows start result.area result.x result.y }
+    ensures { IsBestOf sort cuts.now flags.now result.area result.x result.y }
 {
-    mark(sort, flags, windows, start, marks);
+    mark(sort, flags, marks);
     greatest(cuts.xs(), cuts.ys(), marks, work)
 }
 
-/// The first window in which the rectangle holds more than a quarter of flagged pixels, and where it first holds the most.
-fn first_many(
+/// The window that starts at a frame and has these flags, where the rectangle holds more than a quarter of flagged
+/// pixels: it is told by where the rectangle first holds the most.
+fn many_in(
     sort: Sort,
     cuts: &Cuts,
     flags: &[Flag],
-    windows: u32,
+    start: u32,
     marks: &mut [bool],
     work: &mut [u32],
 ) -> Option<BadWindow>
-    requires all { length flags.now ≡ cells_between cuts.now.xs cuts.now.ys * windows }
+    requires flags { length flags.now ≡ cells_between cuts.now.xs cuts.now.ys }
     requires marks { length marks.old ≡ cells_between cuts.now.xs cuts.now.ys }
     requires work { length work.old ≡ cells_between cuts.now.xs cuts.now.ys }
-    ensures { IsFound sort cuts.now flags.now windows result }
+    ensures { IsFinding sort cuts.now flags.now start result }
 {
-    for start in 0..windows {
-        let best = best_in(sort, cuts, flags, windows, start, marks, work);
-        if best.area > QUARTER {
-            return Some(BadWindow {
-                start,
-                x: best.x,
-                y: best.y,
-            });
-        }
+    let best = best_of(sort, cuts, flags, marks, work);
+    if best.area > QUARTER {
+        return Some(BadWindow {
+            start,
+            x: best.x,
+            y: best.y,
+        });
     }
     None
 }
 
-/// The verdict that the flags of all cells tell, of so many windows.
-pub(crate) fn verdict_of(
-    alloc: Global,
+/// What was found before, or else what is found in the window that starts at a frame and has these flags.
+fn look_for(
+    sort: Sort,
+    found: Option<BadWindow>,
     cuts: &Cuts,
     flags: &[Flag],
-    windows: u32,
-) -> Result<Verdict, NoMemory>
-    requires all { length flags.now ≡ cells_between cuts.now.xs cuts.now.ys * windows }
-    ensures { IfOk result (λ verdict. IsTold cuts.now flags.now windows verdict) }
+    start: u32,
+    marks: &mut [bool],
+    work: &mut [u32],
+) -> Option<BadWindow>
+    requires flags { length flags.now ≡ cells_between cuts.now.xs cuts.now.ys }
+    requires marks { length marks.old ≡ cells_between cuts.now.xs cuts.now.ys }
+    requires work { length work.old ≡ cells_between cuts.now.xs cuts.now.ys }
+    ensures { IsLookedAt sort cuts.now flags.now start found result }
 {
-    let cells = cuts.cells() as usize;
-    let mut marks = vec![in alloc; false; cells]?;
-    let mut work = vec![in alloc; 0u32; cells]?;
-    if let Some(window) = first_many(
-        Sort::Sure,
-        cuts,
-        flags,
-        windows,
-        marks.as_mut_slice(),
-        work.as_mut_slice(),
-    ) {
-        return Ok(Verdict::Fail(window));
+    match found {
+        Some(window) => Some(window),
+        None => many_in(sort, cuts, flags, start, marks, work),
     }
-    match first_many(
+}
+
+/// Looks at the window that starts at a frame and has these flags, for each sort of which none was found before.
+pub(crate) fn look(
+    found: Found,
+    cuts: &Cuts,
+    flags: &[Flag],
+    start: u32,
+    marks: &mut [bool],
+    work: &mut [u32],
+) -> Found
+    requires flags { length flags.now ≡ cells_between cuts.now.xs cuts.now.ys }
+    requires marks { length marks.old ≡ cells_between cuts.now.xs cuts.now.ys }
+    requires work { length work.old ≡ cells_between cuts.now.xs cuts.now.ys }
+    ensures sure { IsLookedAt Sure cuts.now flags.now start found.sure result.sure }
+    ensures possible { IsLookedAt Possible cuts.now flags.now start found.possible result.possible }
+{
+    let sure = look_for(Sort::Sure, found.sure, cuts, flags, start, marks, work);
+    let possible = look_for(
         Sort::Possible,
+        found.possible,
         cuts,
         flags,
-        windows,
-        marks.as_mut_slice(),
-        work.as_mut_slice(),
-    ) {
-        Some(window) => Ok(Verdict::Undecided(Reason::Enclosure {
-            start: window.start,
-            x: window.x,
-            y: window.y,
-        })),
-        None => Ok(Verdict::Pass {
-            frames: windows,
-            apart: false,
-        }),
-    }
+        start,
+        marks,
+        work,
+    );
+    Found { sure, possible }
 }

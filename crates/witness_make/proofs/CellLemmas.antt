@@ -10,7 +10,7 @@ use Rattle.page_model.specs.Cells.{cells_between}
 use Rattle.region_split.specs.Cutting.{Edges, IsInside, cell_of}
 use Rattle.window_area.specs.Edges.{AreEdges, band_of, bands}
 use Rattle.window_area.proofs.BandLemmas.{band_of-between}
-use Rattle.sweep.proofs.SideLemmas.{cell_at}
+use Rattle.cell_flags.proofs.SideLemmas.{cell_at}
 use Rattle.witness_laws.proofs.AreaLemmas.{size_of}
 
 -- the cell of a pixel has the pixel's number

@@ -17,7 +17,7 @@ use Rattle.page_model.specs.WitnessConditions.{HasSetup}
 use Rattle.paint_blend.specs.Paint.{IsOrdered}
 use Rattle.region_split.specs.declared.types.Rect.{Rect}
 use Rattle.region_split.specs.Cutting.{Edges, cell_of}
-use Rattle.sweep.proofs.SideLemmas.{AreSides}
+use Rattle.cell_flags.proofs.SideLemmas.{AreSides}
 use Rattle.witness_laws.proofs.AreaLemmas.{size_of}
 use Rattle.witness_make.proofs.MadeLemmas.{AreMadeOf, all-parts, area-fits, lies-inside, sides-of}
 use Rattle.witness_make.proofs.TurnLemmas.{frames-within, place-within}

@@ -24,7 +24,7 @@ use Rattle.region_split.specs.Cutting.{Edges, IsInside, cell_of}
 use Rattle.window_area.specs.Edges.{bands, end_of}
 use Rattle.window_area.proofs.BandLemmas.{edge-le-end}
 use Rattle.sweep.specs.Marks.{CountsFlagged}
-use Rattle.sweep.proofs.SideLemmas.{AreSides, cell_at, cell_at-inside, cell_at-known, sides-are}
+use Rattle.cell_flags.proofs.SideLemmas.{AreSides, cell_at, cell_at-inside, cell_at-known, sides-are}
 use Rattle.witness_make.specs.Clip.{IsCutTo}
 use Rattle.witness_make.specs.Made.{AreCutsOf, AreParts, IsMade, IsPartOf}
 use Rattle.witness_make.specs.Turns.{no_tint}

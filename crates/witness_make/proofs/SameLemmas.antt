@@ -21,6 +21,7 @@ use Rattle.region_split.specs.Cutting.{Edges, IsInside, cell_of}
 use Rattle.wide_laws.proofs.LooseLemmas.{loose_run-met}
 use Rattle.cell_tints.specs.Tints.{IsOwnTint}
 use Rattle.cell_flags.proofs.FlagLemmas.{corner-inside, own-alike}
+use Rattle.cell_flags.proofs.RunLemmas.{cut-alike}
 use Rattle.witness_make.specs.Made.{AreCutsOf, AreSurelyFlagged}
 use Rattle.witness_make.specs.Turns.{AreTintsFrom, no_tint}
 
@@ -37,7 +38,7 @@ pub seen-tint : (scene : Scene) (setup : Setup) (edges : Edges) (start i k colum
 seen-tint scene setup edges start i k column row tint run valid cuts known within is inside seen =
     let cover = cuts.cover in
     seen.is ∙ own-alike scene setup cuts.frames edges i (start + k) (cell_of edges.xs edges.ys i).x (cell_of edges.xs edges.ys i).y column row
-    seen.states (run (start + k)) valid cuts.cut known (omega arith) seen.own_states
+    seen.states (run (start + k)) valid (cut-alike scene setup cuts.frames edges cuts.cut) known (omega arith) seen.own_states
     (run-own scene setup start (start + k) run is (omega arith) (omega arith))
     (corner-inside edges.xs edges.ys i cuts.cut.sound.columns cuts.cut.sound.rows known) inside
 
@@ -96,7 +97,8 @@ flagged-all scene setup edges start i column row run valid cuts known is inside 
     let seen : ℕ → Tint = λ frame. tints_of scene run frame column row in
     let there : ℕ → Tint = λ frame. tints_of scene other frame other_column other_row in
     let same : (frame : ℕ) → start ≤ frame → frame ≤ start + window_of setup → seen frame ≡ there frame = λ frame low high.
-    own-alike scene setup cuts.frames edges i frame column row other_column other_row (run frame) (other frame) valid cuts.cut known
+    own-alike scene setup cuts.frames edges i frame column row other_column other_row (run frame) (other frame) valid
+    (cut-alike scene setup cuts.frames edges cuts.cut) known
     (let cover = cuts.cover in omega arith) (run-own scene setup start frame run is low high) (run-own scene setup start frame other other_is low high)
     inside other_inside in
     elim flagged [

@@ -1,48 +1,12 @@
-// The edge: words, pages that are refused, and sources and sinks that fail.
-use crate::running::{CHECK, Page, ROOM, Row, is_told, run_over, source_of};
+// Files that aren't there, or have no byte.
+use crate::running::{CHECK, Page, Row};
 use flash_top::Status;
-use io_edge::MemorySource;
-use sample_pages::page_of;
-use std::alloc::Global;
-use std::test::Fail;
 
-/// Words that are no command, and a page that isn't there or has no byte.
-pub const EDGE: [Row; 7] = [
-    Row {
-        shows: "no_column",
-        page: Page::Whole(b""),
-        words: "check p 0x768 60",
-        status: Status::Words,
-        text: "words: not understood\n",
-    },
-    Row {
-        shows: "leading_zero",
-        page: Page::Whole(b""),
-        words: "check p 1024x768 060",
-        status: Status::Words,
-        text: "words: not understood\n",
-    },
-    Row {
-        shows: "rate_over_the_limit",
-        page: Page::Whole(b""),
-        words: "check p 1024x768 241",
-        status: Status::Words,
-        text: "words: not understood\n",
-    },
-    Row {
-        shows: "other_word",
-        page: Page::Whole(b""),
-        words: "light fff",
-        status: Status::Words,
-        text: "words: not understood\n",
-    },
-    Row {
-        shows: "no_word",
-        page: Page::Whole(b""),
-        words: "",
-        status: Status::Words,
-        text: "words: not understood\n",
-    },
+/// The words of which the witness isn't there.
+const VERIFY: &str = "verify p w 1024x768 60";
+
+/// A file of a witness that isn't there is opened only where the page is judged.
+pub const MISSING: [Row; 5] = [
     Row {
         shows: "no_byte",
         page: Page::Whole(b""),
@@ -57,24 +21,25 @@ pub const EDGE: [Row; 7] = [
         status: Status::ReadFault,
         text: "cannot read\n",
     },
+    Row {
+        shows: "no_page",
+        page: Page::Whole(b"<!DOCTYPE html><html><head></head><body><p></p></body></html>"),
+        words: VERIFY,
+        status: Status::Page,
+        text: "page: bad text at 40\n",
+    },
+    Row {
+        shows: "box_without_a_place",
+        page: Page::Styled("", "<div></div>"),
+        words: VERIFY,
+        status: Status::Page,
+        text: "page: element 1 is not placed\n",
+    },
+    Row {
+        shows: "page_that_is_judged",
+        page: Page::Whole(b"<!DOCTYPE html><html><head></head><body></body></html>"),
+        words: VERIFY,
+        status: Status::ReadFault,
+        text: "cannot read\n",
+    },
 ];
-
-/// A source with an empty page.
-fn source_of_page(alloc: Global) -> Result<MemorySource, Fail> {
-    let page = page_of(alloc, "", "")?;
-    source_of(alloc, page.as_bytes())
-}
-
-#[test]
-fn faults_of_source_and_sink(rt: HostRuntime) -> Result<(), Fail> {
-    // The third call is the second read.
-    let mut source = source_of_page(rt.alloc())?;
-    source.fail_at(3)?;
-    let cut = run_over(rt.alloc(), CHECK, &mut source, ROOM)?;
-    assert!(rt; is_told(&cut, Status::ReadFault, b"cannot read\n"));
-
-    let mut source = source_of_page(rt.alloc())?;
-    let full = run_over(rt.alloc(), CHECK, &mut source, 5)?;
-    assert!(rt; is_told(&full, Status::WriteFault, b"pass:"));
-    Ok(())
-}

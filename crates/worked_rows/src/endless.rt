@@ -14,7 +14,7 @@ const LATE_LAMP: &str =
 const LATE_WITNESS: &str =
     "{\"area\":87296,\"height\":768,\"parts\":[{\"frames\":[5400,5408,5415,5423,5430,5438,5445,5453,5460],\"height\":256,\"kind\":\"general\",\"tints\":[\"000000\",\"ffffff\",\"000000\",\"ffffff\",\"000000\",\"ffffff\",\"000000\",\"ffffff\",\"000000\"],\"width\":341,\"x\":0,\"y\":0}],\"rate\":60,\"start\":5400,\"verdict\":\"fail\",\"version\":1,\"width\":1024,\"x\":0,\"y\":0}\n";
 
-pub const ENDLESS: [Row; 10] = [
+pub const ENDLESS: [Row; 9] = [
     Row {
         shows: "a_quarter_of_the_rectangle_passes",
         page: Page::Styled(
@@ -102,15 +102,39 @@ pub const ENDLESS: [Row; 10] = [
         status: Status::Pass,
         text: "pass: frames 720\n",
     },
+];
+
+/// Boxes whose rhythms meet too late for all of them to be looked at together: they are looked at by regions.
+pub const APART: [Row; 3] = [
     Row {
-        shows: "three_rhythms_that_meet_too_late_are_undecided",
+        shows: "two_boxes_that_one_rectangle_may_hold_pass",
+        page: Page::Styled(
+            ".b{position:absolute;background-color:#000000;top:0px;width:100px;height:100px}.p{left:0px;animation:f 197ms steps(1) infinite}.q{left:150px;animation:f 199ms steps(1) infinite}@keyframes f{0%{background-color:#000000}50%{background-color:#ffffff}}",
+            "<div class=\"b p\"></div><div class=\"b q\"></div>",
+        ),
+        words: CHECK,
+        status: Status::Pass,
+        text: "pass: frames 597, regions apart\n",
+    },
+    Row {
+        shows: "two_boxes_of_more_than_a_quarter_are_undecided",
+        page: Page::Styled(
+            ".b{position:absolute;background-color:#000000;top:0px;width:150px;height:150px}.p{left:0px;animation:f 197ms steps(1) infinite}.q{left:150px;animation:f 199ms steps(1) infinite}@keyframes f{0%{background-color:#000000}50%{background-color:#ffffff}}",
+            "<div class=\"b p\"></div><div class=\"b q\"></div>",
+        ),
+        words: CHECK,
+        status: Status::Undecided,
+        text: "undecided: more than 100000 frames\n",
+    },
+    Row {
+        shows: "three_small_boxes_pass",
         page: Page::Styled(
             ".b{position:absolute;background-color:#000000;top:0px;width:50px;height:50px}.p{left:0px;animation:f 997ms steps(1) infinite}.q{left:100px;animation:f 991ms steps(1) infinite}.r{left:200px;animation:f 983ms steps(1) infinite}@keyframes f{0%{background-color:#000000}50%{background-color:#ffffff}}",
             "<div class=\"b p\"></div><div class=\"b q\"></div><div class=\"b r\"></div>",
         ),
         words: CHECK,
-        status: Status::Undecided,
-        text: "undecided: more than 100000 frames\n",
+        status: Status::Pass,
+        text: "pass: frames 2991, regions apart\n",
     },
 ];
 

@@ -1,6 +1,7 @@
 // Pages cut short everywhere.
 use crate::running::{CHECK, is_told, run_on};
 use flash_top::Status;
+use sample_pages::banner;
 use std::alloc::Global;
 use std::test::Fail;
 
@@ -9,51 +10,6 @@ const SHORT: &[u8] = b"<!DOCTYPE html><html><head><style></style></head><body></
 
 /// Where its tokens begin; the style text, which is empty, begins where its closing tag does.
 const STARTS: [usize; 9] = [0, 15, 21, 27, 34, 42, 49, 55, 62];
-
-/// A page of nine boxes.
-const BANNER: &[u8] = br#"<!DOCTYPE html>
-<html lang="en">
-<head>
-<meta charset="utf-8">
-<meta name="viewport" content="width=device-width">
-<title>Banner</title>
-<style>
-/* nine boxes in a row */
-body { margin: 0; background: #f4f4f4; }
-.box { position: absolute; top: 20px; width: 90px; height: 60px;
-       background-color: #204080; }
-#a { left: 10px; }
-#b { left: 110px; }
-#c { left: 210px; }
-#d { left: 310px; }
-#e { left: 410px; }
-#f { left: 510px; }
-#g { left: 610px; }
-#h { left: 710px; }
-.pulse { animation: pulse 1s ease-in-out infinite alternate; }
-.blink { animation: blink 1.5s steps(1) infinite,
-                    slide 3s linear 0.5s infinite alternate both; }
-@keyframes pulse { from { opacity: 1; } to { opacity: 0.4; } }
-@keyframes blink {
-  0%, 100% { background-color: #204080; }
-  50% { background-color: orange; }
-}
-@keyframes slide { from { top: 20px; } to { top: 40px; } }
-</style>
-</head>
-<body>
-<div id="a" class="box pulse"></div>
-<div id="b" class="box"></div>
-<div id="c" class="box blink"></div>
-<div id="d" class="box pulse"></div>
-<div id="e" class="box blink"></div>
-<div id="f" class="box"></div>
-<div id="g" class="box pulse"></div>
-<div id="h" class="box blink"></div>
-<div class="box" style="left: 810px; z-index: 2" data-part="logo"></div>
-</body>
-</html>
-"#;
 
 /// Whether these bytes are refused as no page at a place.
 fn is_refused(alloc: Global, page: &[u8], place: usize) -> Result<bool, Fail> {
@@ -86,14 +42,11 @@ fn is_told_as(alloc: Global, page: &[u8], is_page: bool) -> Result<bool, Fail> {
 
 #[test]
 fn fronts_of_the_banner_are_refused(rt: HostRuntime) -> Result<(), Fail> {
-    let whole = BANNER.len();
-    for front in 0..=whole {
+    let page = banner();
+    for front in 0..=page.len() {
         // The last line feed may be missing.
-        let is_page = front + 1 >= whole;
-        assert!(rt;
-            is_told_as(rt.alloc(), &BANNER[..front], is_page)?,
-            "{front}"
-        );
+        let is_page = front + 1 >= page.len();
+        assert!(rt; is_told_as(rt.alloc(), &page[..front], is_page)?, "{front}");
     }
     Ok(())
 }

@@ -16,6 +16,8 @@ mod edge;
 #[cfg(test)]
 mod endless;
 #[cfg(test)]
+mod ends;
+#[cfg(test)]
 mod fronts;
 #[cfg(test)]
 mod lamps;

@@ -2,7 +2,7 @@
 use crate::running::{CHECK, Page, Row};
 use flash_top::Status;
 
-pub const PAGES: [Row; 11] = [
+pub const PAGES: [Row; 10] = [
     Row {
         shows: "style_text_that_nothing_ends",
         page: Page::Whole(b"<!DOCTYPE html><html><head><style>body{/* x"),
@@ -86,12 +86,5 @@ pub const PAGES: [Row; 11] = [
         words: CHECK,
         status: Status::Page,
         text: "page: more than 64 boxes\n",
-    },
-    Row {
-        shows: "one_byte_too_many",
-        page: Page::Spaces(1_048_577),
-        words: CHECK,
-        status: Status::Page,
-        text: "page: too long\n",
     },
 ];

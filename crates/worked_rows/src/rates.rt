@@ -57,68 +57,6 @@ pub const RATES: [Row; 5] = [
     },
 ];
 
-const NO_PAGE: Page = Page::Whole(b"");
-
-/// Words whose rate is none.
-pub const NO_RATES: [Row; 8] = [
-    Row {
-        shows: "less_than_one_frame_in_a_second",
-        page: NO_PAGE,
-        words: "check p 1024x768 1000/1001",
-        status: Status::Words,
-        text: "words: not understood\n",
-    },
-    Row {
-        shows: "another_number_of_seconds",
-        page: NO_PAGE,
-        words: "check p 1024x768 60000/1002",
-        status: Status::Words,
-        text: "words: not understood\n",
-    },
-    Row {
-        shows: "more_than_the_greatest_rate",
-        page: NO_PAGE,
-        words: "check p 1024x768 240001/1001",
-        status: Status::Words,
-        text: "words: not understood\n",
-    },
-    Row {
-        shows: "sixty_in_1001_seconds",
-        page: NO_PAGE,
-        words: "check p 1024x768 60/1001",
-        status: Status::Words,
-        text: "words: not understood\n",
-    },
-    Row {
-        shows: "leading_zero",
-        page: NO_PAGE,
-        words: "check p 1024x768 060000/1001",
-        status: Status::Words,
-        text: "words: not understood\n",
-    },
-    Row {
-        shows: "no_seconds",
-        page: NO_PAGE,
-        words: "check p 1024x768 60000/",
-        status: Status::Words,
-        text: "words: not understood\n",
-    },
-    Row {
-        shows: "no_frames",
-        page: NO_PAGE,
-        words: "check p 1024x768 /1001",
-        status: Status::Words,
-        text: "words: not understood\n",
-    },
-    Row {
-        shows: "two_strokes",
-        page: NO_PAGE,
-        words: "check p 1024x768 60000/1001/1001",
-        status: Status::Words,
-        text: "words: not understood\n",
-    },
-];
-
 /// Witnesses at such rates. In the second and the third, the first version has the key of the second, and the second
 /// version hasn't got it.
 pub const RATE_WITNESSES: [Verified; 6] = [

@@ -5,15 +5,12 @@ use sample_pages::{lamp, page_of};
 use std::alloc::Global;
 use std::test::Fail;
 
-/// The room of a sink for whole texts, in bytes.
-pub const ROOM: u32 = 4096;
-
 /// Most rows are of this command.
 pub const CHECK: &str = "check p 1024x768 60";
 
 /// A page by its bytes, by its style text and its boxes, or as a lamp: two colours, and what its animation does; one of
-/// a box, by its colour and what else its style has, with keyframes `f` from `transparent` to red; one of so many boxes,
-/// and so many spaces.
+/// a box, by its colour and what else its style has, with keyframes `f` from `transparent` to red; one of so many boxes
+/// that have no place, or have one; the empty page with so many spaces behind it, and spaces alone.
 #[derive(Clone, Copy)]
 pub enum Page {
     Whole(&'static [u8]),
@@ -21,8 +18,28 @@ pub enum Page {
     Lamp(&'static str, &'static str, &'static str),
     Coloured(&'static str, &'static str),
     Boxes(usize),
+    Placed(usize),
+    Followed(usize),
     Spaces(usize),
 }
+
+/// What stands between a run and its page and text: the most bytes of a read, the call of the source that fails, the
+/// most bytes of a write, each 0 for none, and the room of the sink.
+#[derive(Clone, Copy)]
+pub struct Ends {
+    pub read: u32,
+    pub failing: u32,
+    pub written: u32,
+    pub room: u32,
+}
+
+/// Ends at which nothing is cut and nothing fails.
+pub const WHOLE: Ends = Ends {
+    read: 0,
+    failing: 0,
+    written: 0,
+    room: 4096,
+};
 
 /// A page, the words of a run on it, and the status and the text that it must have.
 #[derive(Clone, Copy)]
@@ -45,6 +62,10 @@ pub struct Verified {
     pub text: &'static str,
 }
 
+/// The style text of black boxes of one pixel.
+const DOT: &str =
+    ".b{position:absolute;left:0px;top:0px;width:1px;height:1px;background-color:#000000}";
+
 /// How a run went: its status, and what was written.
 #[derive(Drop)]
 pub struct Told {
@@ -53,7 +74,7 @@ pub struct Told {
 }
 
 /// The words of a line, which are parted by single spaces.
-fn words_of(alloc: Global, line: &str) -> Result<Vec<String>, Fail> {
+pub fn words_of(alloc: Global, line: &str) -> Result<Vec<String>, Fail> {
     let mut words = Vec::new(alloc);
     for word in line.split_whitespace() {
         words.push(String::from_str(alloc, word)?)?;
@@ -61,38 +82,55 @@ fn words_of(alloc: Global, line: &str) -> Result<Vec<String>, Fail> {
     Ok(words)
 }
 
-/// A source with one file, `p`.
-pub fn source_of(alloc: Global, page: &[u8]) -> Result<MemorySource, Fail> {
+/// A source whose file `p` is the page, and whose file `w`, where there is one, the witness.
+fn source_of(
+    alloc: Global,
+    page: &[u8],
+    witness: Option<&[u8]>,
+    ends: Ends,
+) -> Result<MemorySource, Fail> {
     let mut source = MemorySource::new(alloc);
     source.add("p", page)?;
+    if let Some(witness) = witness {
+        source.add("w", witness)?;
+    }
+    if ends.read > 0 {
+        source.dole(ends.read);
+    }
+    if ends.failing > 0 {
+        source.fail_at(ends.failing)?;
+    }
     Ok(source)
 }
 
-/// The run of these words over a source, into a sink with so much room.
-pub fn run_over(
+/// A sink with so much room, which takes so much at a time.
+fn sink_of(alloc: Global, ends: Ends) -> Result<MemorySink, Fail> {
+    let mut sink = MemorySink::new(alloc, ends.room)?;
+    if ends.written > 0 {
+        sink.dole(ends.written);
+    }
+    Ok(sink)
+}
+
+/// The run of these words between such ends, where the file `p` is this page, and `w` this witness.
+pub fn run_between(
     alloc: Global,
     line: &str,
-    source: &mut MemorySource,
-    room: u32,
+    page: &[u8],
+    witness: Option<&[u8]>,
+    ends: Ends,
 ) -> Result<Told, Fail> {
     let words = words_of(alloc, line)?;
-    let mut sink = MemorySink::new(alloc, room)?;
-    let status = run(alloc, words.as_slice(), source, &mut sink);
+    let mut source = source_of(alloc, page, witness, ends)?;
+    let mut sink = sink_of(alloc, ends)?;
+    let status = run(alloc, words.as_slice(), &mut source, &mut sink);
     let text = sink.bytes().to_vec(alloc)?;
     Ok(Told { status, text })
 }
 
 /// The run of these words where the file `p` has these bytes.
 pub fn run_on(alloc: Global, line: &str, page: &[u8]) -> Result<Told, Fail> {
-    let mut source = source_of(alloc, page)?;
-    run_over(alloc, line, &mut source, ROOM)
-}
-
-/// The run of these words where the file `p` has these bytes, and the file `w` those.
-pub fn run_on_both(alloc: Global, line: &str, page: &[u8], witness: &[u8]) -> Result<Told, Fail> {
-    let mut source = source_of(alloc, page)?;
-    source.add("w", witness)?;
-    run_over(alloc, line, &mut source, ROOM)
+    run_between(alloc, line, page, None, WHOLE)
 }
 
 /// The bytes of a page.
@@ -114,6 +152,15 @@ pub fn bytes_of(alloc: Global, page: Page) -> Result<Vec<u8>, Fail> {
         Page::Boxes(count) => {
             let boxes = "<div></div>".repeat(alloc, count)?;
             page_of(alloc, "", boxes.as_str())?
+        }
+        Page::Placed(count) => {
+            let boxes = "<div class=\"b\"></div>".repeat(alloc, count)?;
+            page_of(alloc, DOT, boxes.as_str())?
+        }
+        Page::Followed(count) => {
+            let page = page_of(alloc, "", "")?;
+            let spaces = " ".repeat(alloc, count)?;
+            format!(in alloc; "{page}{spaces}")?
         }
     };
     Ok(text.into_bytes())
@@ -140,7 +187,13 @@ pub fn first_wrong(alloc: Global, rows: &[Row]) -> Result<Option<&'static str>, 
 pub fn first_untrue(alloc: Global, rows: &[Verified]) -> Result<Option<&'static str>, Fail> {
     for row in rows {
         let page = bytes_of(alloc, row.page)?;
-        let told = run_on_both(alloc, row.words, page.as_slice(), row.witness.as_bytes())?;
+        let told = run_between(
+            alloc,
+            row.words,
+            page.as_slice(),
+            Some(row.witness.as_bytes()),
+            WHOLE,
+        )?;
         if !is_told(&told, row.status, row.text.as_bytes()) {
             return Ok(Some(row.shows));
         }

@@ -2,7 +2,7 @@
 use crate::running::{CHECK, Page, Row};
 use flash_top::Status;
 
-pub const SHEETS: [Row; 11] = [
+pub const SHEETS: [Row; 10] = [
     Row {
         shows: "comment_that_nothing_ends",
         page: Page::Styled("/* x", ""),
@@ -51,16 +51,6 @@ pub const SHEETS: [Row; 11] = [
         words: CHECK,
         status: Status::Page,
         text: "page: body has a property that it may not have\n",
-    },
-    Row {
-        shows: "nine_animations",
-        page: Page::Styled(
-            "body{animation-name:a,b,c,d,e,f,g,h,i;background-color:#ffffff}",
-            "",
-        ),
-        words: CHECK,
-        status: Status::Page,
-        text: "page: more than 8 animations on element 0\n",
     },
     // A fault of the style text comes before one of a style attribute, which comes before one of an element.
     Row {

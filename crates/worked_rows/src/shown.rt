@@ -1,4 +1,4 @@
-// The commands that open no file: how light a colour is, and the page that is made from a number.
+// The words that open no file: how light a colour is, the page that is made from a number, and what isn't understood.
 use crate::running::{is_told, run_on};
 use flash_top::Status;
 use std::alloc::Global;
@@ -43,8 +43,23 @@ const LIGHTS: [Told; 8] = [
 /// Pages that are made from a number, judged at few frames a second.
 const NUMBERS: [Told; 1] = [("demo 7 1024x768 10", "demo 7: boxes 64\npass: frames 20\n")];
 
-/// Words that spell no colour, and no number or setup.
-const NOT_UNDERSTOOD: [Told; 15] = [
+/// Words that are no command, or spell no setup, colour, number or rate.
+const NOT_UNDERSTOOD: [Told; 27] = [
+    ("", "words: not understood\n"),
+    ("check p 0x768 60", "words: not understood\n"),
+    ("check p 1024x768 060", "words: not understood\n"),
+    ("check p 1024x768 241", "words: not understood\n"),
+    ("check p 1024x768 1000/1001", "words: not understood\n"),
+    ("check p 1024x768 60000/1002", "words: not understood\n"),
+    ("check p 1024x768 240001/1001", "words: not understood\n"),
+    ("check p 1024x768 60/1001", "words: not understood\n"),
+    ("check p 1024x768 060000/1001", "words: not understood\n"),
+    ("check p 1024x768 60000/", "words: not understood\n"),
+    ("check p 1024x768 /1001", "words: not understood\n"),
+    (
+        "check p 1024x768 60000/1001/1001",
+        "words: not understood\n",
+    ),
     ("light", "words: not understood\n"),
     ("light fff", "words: not understood\n"),
     ("light #ffffff", "words: not understood\n"),
@@ -74,19 +89,9 @@ fn first_wrong(alloc: Global, status: Status, rows: &[Told]) -> Result<Option<&'
 }
 
 #[test]
-fn lights_are_told(rt: HostRuntime) -> Result<(), Fail> {
+fn words_without_a_page_are_told(rt: HostRuntime) -> Result<(), Fail> {
     assert_eq!(rt; first_wrong(rt.alloc(), Status::Pass, &LIGHTS)?, None);
-    Ok(())
-}
-
-#[test]
-fn pages_of_numbers_are_told(rt: HostRuntime) -> Result<(), Fail> {
     assert_eq!(rt; first_wrong(rt.alloc(), Status::Pass, &NUMBERS)?, None);
-    Ok(())
-}
-
-#[test]
-fn words_of_neither_are_refused(rt: HostRuntime) -> Result<(), Fail> {
     assert_eq!(rt;
         first_wrong(rt.alloc(), Status::Words, &NOT_UNDERSTOOD)?,
         None

@@ -1,58 +1,53 @@
-// The tables of runs on one page.
+// The tables of runs on one page. A test has a few of them: its proof is paid for every call in it.
 use crate::alpha::{ALPHA, NO_COLOURS};
 use crate::boxes::{BODIES, BOXES};
-use crate::edge::EDGE;
-use crate::endless::{ENDLESS, LATE};
+use crate::endless::{APART, ENDLESS, LATE};
 use crate::lamps::LAMPS;
-use crate::limits::LIMITS;
+use crate::limits::{BAD_VALUES, LENGTHS, LIMITS};
 use crate::pages::PAGES;
-use crate::rates::{NO_RATES, RATE_WITNESSES, RATES};
+use crate::rates::{RATE_WITNESSES, RATES};
 use crate::red::{RED_WITNESSES, REDS};
 use crate::running::{first_untrue, first_wrong};
 use crate::sheets::{SHEETS, STILL};
 use crate::tints::TINTS;
-use crate::witnesses::MISSING;
 use std::test::Fail;
 
 #[test]
 fn rows_of_lamps_are_told(rt: HostRuntime) -> Result<(), Fail> {
     assert_eq!(rt; first_wrong(rt.alloc(), &LAMPS)?, None);
-    Ok(())
-}
-
-#[test]
-fn rows_of_boxes_are_told(rt: HostRuntime) -> Result<(), Fail> {
     assert_eq!(rt; first_wrong(rt.alloc(), &BOXES)?, None);
-    Ok(())
-}
-
-#[test]
-fn rows_of_bodies_are_told(rt: HostRuntime) -> Result<(), Fail> {
     assert_eq!(rt; first_wrong(rt.alloc(), &BODIES)?, None);
+    assert_eq!(rt; first_wrong(rt.alloc(), &REDS)?, None);
     Ok(())
 }
 
 #[test]
-fn rows_of_tints_are_told(rt: HostRuntime) -> Result<(), Fail> {
+fn rows_of_colours_are_told(rt: HostRuntime) -> Result<(), Fail> {
     assert_eq!(rt; first_wrong(rt.alloc(), &TINTS)?, None);
+    assert_eq!(rt; first_wrong(rt.alloc(), &ALPHA)?, None);
+    assert_eq!(rt; first_wrong(rt.alloc(), &NO_COLOURS)?, None);
     Ok(())
 }
 
 #[test]
-fn rows_of_still_pages_are_told(rt: HostRuntime) -> Result<(), Fail> {
+fn rows_of_texts_are_told(rt: HostRuntime) -> Result<(), Fail> {
     assert_eq!(rt; first_wrong(rt.alloc(), &STILL)?, None);
-    Ok(())
-}
-
-#[test]
-fn rows_of_sheets_are_told(rt: HostRuntime) -> Result<(), Fail> {
     assert_eq!(rt; first_wrong(rt.alloc(), &SHEETS)?, None);
+    assert_eq!(rt; first_wrong(rt.alloc(), &PAGES)?, None);
     Ok(())
 }
 
 #[test]
-fn rows_of_pages_are_told(rt: HostRuntime) -> Result<(), Fail> {
-    assert_eq!(rt; first_wrong(rt.alloc(), &PAGES)?, None);
+fn rows_of_rates_and_rhythms_are_told(rt: HostRuntime) -> Result<(), Fail> {
+    assert_eq!(rt; first_wrong(rt.alloc(), &RATES)?, None);
+    assert_eq!(rt; first_wrong(rt.alloc(), &ENDLESS)?, None);
+    assert_eq!(rt; first_wrong(rt.alloc(), &APART)?, None);
+    Ok(())
+}
+
+#[test]
+fn rows_of_lengths_are_told(rt: HostRuntime) -> Result<(), Fail> {
+    assert_eq!(rt; first_wrong(rt.alloc(), &LENGTHS)?, None);
     Ok(())
 }
 
@@ -63,67 +58,15 @@ fn rows_of_limits_are_told(rt: HostRuntime) -> Result<(), Fail> {
 }
 
 #[test]
-fn rows_of_missing_witnesses_are_told(rt: HostRuntime) -> Result<(), Fail> {
-    assert_eq!(rt; first_wrong(rt.alloc(), &MISSING)?, None);
+fn rows_of_bad_values_are_told(rt: HostRuntime) -> Result<(), Fail> {
+    assert_eq!(rt; first_wrong(rt.alloc(), &BAD_VALUES)?, None);
     Ok(())
 }
 
 #[test]
-fn rows_of_the_edge_are_told(rt: HostRuntime) -> Result<(), Fail> {
-    assert_eq!(rt; first_wrong(rt.alloc(), &EDGE)?, None);
-    Ok(())
-}
-
-#[test]
-fn rows_of_endless_pages_are_told(rt: HostRuntime) -> Result<(), Fail> {
-    assert_eq!(rt; first_wrong(rt.alloc(), &ENDLESS)?, None);
-    Ok(())
-}
-
-#[test]
-fn rows_of_rates_are_told(rt: HostRuntime) -> Result<(), Fail> {
-    assert_eq!(rt; first_wrong(rt.alloc(), &RATES)?, None);
-    Ok(())
-}
-
-#[test]
-fn rows_of_words_of_no_rate_are_told(rt: HostRuntime) -> Result<(), Fail> {
-    assert_eq!(rt; first_wrong(rt.alloc(), &NO_RATES)?, None);
-    Ok(())
-}
-
-#[test]
-fn rows_of_reds_are_told(rt: HostRuntime) -> Result<(), Fail> {
-    assert_eq!(rt; first_wrong(rt.alloc(), &REDS)?, None);
-    Ok(())
-}
-
-#[test]
-fn rows_of_colours_with_alpha_are_told(rt: HostRuntime) -> Result<(), Fail> {
-    assert_eq!(rt; first_wrong(rt.alloc(), &ALPHA)?, None);
-    Ok(())
-}
-
-#[test]
-fn rows_of_words_of_no_colour_are_told(rt: HostRuntime) -> Result<(), Fail> {
-    assert_eq!(rt; first_wrong(rt.alloc(), &NO_COLOURS)?, None);
-    Ok(())
-}
-
-#[test]
-fn witnesses_of_late_lamp_are_told(rt: HostRuntime) -> Result<(), Fail> {
+fn rows_of_witnesses_are_told(rt: HostRuntime) -> Result<(), Fail> {
     assert_eq!(rt; first_untrue(rt.alloc(), &LATE)?, None);
-    Ok(())
-}
-
-#[test]
-fn witnesses_of_rates_are_told(rt: HostRuntime) -> Result<(), Fail> {
     assert_eq!(rt; first_untrue(rt.alloc(), &RATE_WITNESSES)?, None);
-    Ok(())
-}
-
-#[test]
-fn witnesses_of_reds_are_told(rt: HostRuntime) -> Result<(), Fail> {
     assert_eq!(rt; first_untrue(rt.alloc(), &RED_WITNESSES)?, None);
     Ok(())
 }

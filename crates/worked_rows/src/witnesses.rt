@@ -1,5 +1,5 @@
 // Witnesses of a lamp that flashes, accepted and refused.
-use crate::running::{CHECK, Page, Row as Run, bytes_of, is_told, run_on, run_on_both};
+use crate::running::{CHECK, Page, WHOLE, bytes_of, is_told, run_between, run_on};
 use flash_top::Status;
 use std::alloc::Global;
 use std::test::Fail;
@@ -162,27 +162,20 @@ fn tells(
     text: &str,
 ) -> Result<bool, Fail> {
     let page = bytes_of(alloc, LAMP)?;
-    let told = run_on_both(alloc, words, page.as_slice(), witness)?;
+    let told = run_between(alloc, words, page.as_slice(), Some(witness), WHOLE)?;
     Ok(is_told(&told, status, text.as_bytes()))
 }
 
-#[test]
-fn told_witness_is_accepted(rt: HostRuntime) -> Result<(), Fail> {
-    let page = bytes_of(rt.alloc(), LAMP)?;
-    let told = run_on(rt.alloc(), CHECK, page.as_slice())?;
-    let accepted = tells(
-        rt.alloc(),
-        AT_60,
-        told.text.as_slice(),
-        TOLD.status,
-        TOLD.text,
-    )?;
-    assert!(rt; accepted);
-    Ok(())
+/// Whether what `check` tells of the lamp is accepted.
+fn is_told_witness_accepted(alloc: Global) -> Result<bool, Fail> {
+    let page = bytes_of(alloc, LAMP)?;
+    let told = run_on(alloc, CHECK, page.as_slice())?;
+    tells(alloc, AT_60, told.text.as_slice(), TOLD.status, TOLD.text)
 }
 
 #[test]
 fn first_condition_that_fails(rt: HostRuntime) -> Result<(), Fail> {
+    assert!(rt; is_told_witness_accepted(rt.alloc())?);
     for row in REFUSED.iter() {
         let witness = witness_of(rt.alloc(), row)?;
         let told = tells(
@@ -206,21 +199,3 @@ fn first_condition_that_fails(rt: HostRuntime) -> Result<(), Fail> {
     }
     Ok(())
 }
-
-/// Pages with a file of a witness that isn't there: the witness is opened only where the page is judged.
-pub const MISSING: [Run; 2] = [
-    Run {
-        shows: "no_page",
-        page: Page::Whole(b"<!DOCTYPE html><html><head></head><body><p></p></body></html>"),
-        words: AT_60,
-        status: Status::Page,
-        text: "page: bad text at 40\n",
-    },
-    Run {
-        shows: "page_that_is_judged",
-        page: Page::Whole(b"<!DOCTYPE html><html><head></head><body></body></html>"),
-        words: AT_60,
-        status: Status::ReadFault,
-        text: "cannot read\n",
-    },
-];

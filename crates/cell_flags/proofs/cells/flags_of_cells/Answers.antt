@@ -24,5 +24,5 @@ returns c =
     let every = subst (λ n. AreFlagsBefore tints c.cells-cells.result c.rate-rate.result c.args.windows n flags) all c.loop-cell.invariant in
     let by_rate = subst (λ n. AreFlagsBefore tints c.cells-cells.result n c.args.windows c.cells-cells.result flags) c.rate-rate.ensures.value every in
     let by_cells = subst (λ n. AreFlagsBefore tints n (window_of c.args.setup.now) c.args.windows n flags) c.cells-cells.ensures by_rate in
-    flags-are c.args.scene.now c.args.setup.now c.args.windows edges tints flags c.requires.valid c.requires.cut
+    flags-are c.args.scene.now c.args.setup.now c.args.windows edges tints flags c.requires.valid c.requires.cells
     (subst (λ n. AreTintsOfCells c.args.scene.now c.args.setup.now edges 0 n tints) frames c.in_ok-tints.ensures) by_cells

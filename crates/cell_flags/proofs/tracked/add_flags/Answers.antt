@@ -15,5 +15,5 @@ loop-start-preserved c =
       added = adds-more c.args.tints.now c.args.cells c.args.cell c.args.rate c.loop-start.start c.args.flags.now.items
           c.loop-start.flags.items c.push-in-loop-start.new.self.items c.flagged.result c.loop-start.invariant.added (search rules)
           (flag-at c.args.tints.now c.args.cells c.args.cell c.args.rate c.loop-start.start c.push.new.self c.flagged.result tracking
-          c.flagged.ensures.possible c.flagged.ensures.sure);
+          (record { possible = c.flagged.ensures.possible; sure = c.flagged.ensures.sure }));
     }

@@ -1,5 +1,5 @@
 -- The states are ready to be painted, and one tint more is that of the next cell.
-use Rattle.std.proofs.Common.{◌+◌, ap, rules, sym}
+use Rattle.std.proofs.Common.{take, ◌+◌, ap, rules, sym}
 use Rattle.std.proofs.lemmas.Option.{slice_get_within}
 use Rattle.frame_state.specs.States.{states_as}
 use Rattle.region_split.specs.declared.types.Rect.{Rect}
@@ -8,7 +8,7 @@ use Rattle.cell_tints.proofs.tints.add_frame.Goals as goal
 
 pub tint_of-requires-clause-ready : goal.tint_of-requires-clause-ready
 tint_of-requires-clause-ready c number layer is coloured =
-    c.states_at.ensures.ranges number (slice_get_within c.args.scene.now.layers number layer is)
+    rw c.len.ensures (c.states_in-all.ensures.ranges number (slice_get_within c.args.scene.now.layers number layer is))
 
 pub loop-i-preserved : goal.loop-i-preserved
 loop-i-preserved c =
@@ -16,6 +16,6 @@ loop-i-preserved c =
     c.loop-i.tints.items c.push.new.self.items c.tint_of.result c.loop-i.invariant (search rules)
     (search rules)
     (sym (ap (λ (r : Rect). r.x) c.cell-cell.ensures)) (sym (ap (λ (r : Rect). r.y) c.cell-cell.ensures))
-    (own-tint c.args.scene.now c.args.setup.now (c.args.start + c.args.k) c.from-frame.result c.cell-cell.result.x c.cell-cell.result.y
-    c.tint_of.result c.from-frame.ensures (states_as c.states_at.new.out, c.states_at.ensures.own, c.tint_of.ensures.value)
+    (own-tint c.args.scene.now c.args.setup.now (c.args.start + c.args.k) c.cell-cell.result.x c.cell-cell.result.y
+    c.tint_of.result (states_as (take c.len.result c.states_in-all.result), rw c.len.ensures c.states_in-all.ensures.own, c.tint_of.ensures.value)
     c.tint_of.ensures.ordered)

@@ -1,5 +1,5 @@
 -- What the frame before tells, one frame later.
-use Rattle.std.proofs.Common.{ℕ, ◌∙◌, ◌-◌, ◌<◌, [], ◌∷◌, ◌++◌, arith, get_or}
+use Rattle.std.proofs.Common.{ℕ, ◌∙◌, Some, ap, ◌-◌, ◌<◌, [], ◌∷◌, ◌++◌, arith, get_or}
 use Rattle.std.specs.Prelude.{true, false}
 use Rattle.page_model.specs.declared.colour.Tint.{Tint}
 use Rattle.flash_count.specs.declared.changes.Change.TheVariants.{PossibleRise, PossibleFall, SureRise, SureFall, PossiblyIntoRed, PossiblyOutOfRed, SurelyIntoRed, SurelyOutOfRed}
@@ -17,7 +17,7 @@ returns c tints count stands =
     let stays : StaysAt tints tint (turn - 1) turn = record {
       next = omega arith;
       count = count;
-      before = c.requires.still.before tints count stands;
+      before = tells.tint ∙ ap Some c.requires.still.before;
       never = c.requires.still.never;
     } in
     let at = c.last_place-place.ensures.value in

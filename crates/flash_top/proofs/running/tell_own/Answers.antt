@@ -5,5 +5,4 @@ use Rattle.flash_top.proofs.running.tell_own.Goals as goal
 
 pub returns-in-Err : goal.returns-in-Err
 returns-in-Err g c =
-    let told = rw c.as_slice-in-Err.ensures at c.tell-in-Err.ensures in
-    (NoMemory, inr refl, told)
+    (NoMemory, inr refl, c.tell_no_memory.ensures)

@@ -1,26 +1,39 @@
--- The flags of all cells tell the verdict.
-use Rattle.std.proofs.Common.{◌≡◌, List, subst}
-use Rattle.std.proofs.lemmas.Result.{IfOk-weaker}
-use Rattle.flash_count.specs.declared.tracking.Flag.{Flag}
-use Rattle.cell_flags.specs.Flags.{AreFlags}
-use Rattle.sweep.specs.declared.types.Verdict.{Verdict}
-use Rattle.sweep.specs.Told.{IsTold}
-use Rattle.sweep.specs.Verdicts.{IsVerdict, Judged}
-use Rattle.sweep.proofs.VerdictLemmas.{verdict-is}
+-- One pass over the whole page tells its verdict.
+use Rattle.std.proofs.Common.{length, subst, sym}
+use Rattle.std.specs.Prelude.{count_by}
+use Rattle.page_model.specs.Horizon.{frames_for}
+use Rattle.cell_flags.proofs.RunLemmas.{cut-alike}
+use Rattle.sweep.specs.Verdicts.{IsReady, IsVerdictBy, Judged}
+use Rattle.sweep.proofs.VerdictLemmas.{ready-whole, whole-is}
 use Rattle.sweep.proofs.sweep.Sweep.run.Goals as goal
+
+pub find-requires-clause-cells : goal.find-requires-clause-cells
+find-requires-clause-cells c =
+    let s = c.self.inside in
+    let judged : Judged = record {
+      scene = s.scene;
+      setup = s.setup;
+      cuts = s.cuts;
+      needed = s.needed;
+      rows = length s.room.pool.rows;
+      free = count_by (λ is_free. is_free) s.room.pool.free;
+      apart = s.apart;
+    } in
+    let ready : IsReady judged = subst IsReady (sym c.self.view_is) c.requires in
+    cut-alike s.scene s.setup (frames_for s.setup s.needed) s.cuts (ready-whole judged c.if-self.false ready).cut
 
 pub returns-clause-verdict : goal.returns-clause-verdict
 returns-clause-verdict c =
-    let judged : Judged = c.args.self.now in
-    let inside : Judged =
-    record { scene = c.self.inside.scene; setup = c.self.inside.setup; cuts = c.self.inside.cuts; needed = c.self.inside.needed } in
-    let same : inside ≡ judged = c.self.view_is in
-    let flags : List Flag = c.in_ok-flags.flags.items in
-    let are : AreFlags judged.scene judged.setup judged.cuts judged.needed flags =
-    subst (λ (j : Judged). AreFlags j.scene j.setup j.cuts j.needed flags) same c.in_ok-flags.ensures in
-    IfOk-weaker c.verdict_of.result (λ (v : Verdict). IsTold inside.cuts c.as_slice.result.now inside.needed v)
-    (λ (v : Verdict). IsVerdict judged.scene judged.setup judged.needed v)
-    (λ v told.
-    let by_flags = subst (λ (fs : List Flag). IsTold inside.cuts fs inside.needed v) c.as_slice.ensures.value told in
-    verdict-is judged flags v c.requires are (subst (λ (j : Judged). IsTold j.cuts flags j.needed v) same by_flags))
-    c.verdict_of.ensures
+    let s = c.self.inside in
+    let judged : Judged = record {
+      scene = s.scene;
+      setup = s.setup;
+      cuts = s.cuts;
+      needed = s.needed;
+      rows = length s.room.pool.rows;
+      free = count_by (λ is_free. is_free) s.room.pool.free;
+      apart = s.apart;
+    } in
+    let ready : IsReady judged = subst IsReady (sym c.self.view_is) c.requires in
+    subst (λ (j : Judged). IsVerdictBy j.scene j.setup j.needed j.apart c.verdict.result) c.self.view_is
+    (whole-is judged c.verdict.result c.if-self.false ready (c.verdict.ensures s.scene s.setup s.cuts c.find.ensures.found))

@@ -1,0 +1,4 @@
+pub mod MarkLemmas
+pub mod SameLemmas
+pub mod PartLemmas
+pub mod JudgedLemmas

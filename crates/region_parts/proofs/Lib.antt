@@ -1,0 +1,7 @@
+pub mod AreaLemmas
+pub mod FewerLemmas
+pub mod HorizonLemmas
+pub mod MeetLemmas
+pub mod NeedLemmas
+pub mod PartLemmas
+pub mod RefuteLemmas

@@ -1,0 +1,108 @@
+// One pass over the frames of a scene.
+ghost use Rattle.std.specs.Prelude.{◌≡◌, ◌+◌, ◌^◌, ◌<◌, ◌≤◌, ℕ, [], length, slice_index_or};
+ghost use Rattle.cell_flags.specs.Flags.{AreAlikeCells};
+ghost use Rattle.cell_rows.specs.CellRows.{AreRoomy, OnlyRows};
+ghost use Rattle.cell_tints.specs.Tints.{cells_of};
+ghost use Rattle.flash_count.specs.Rows.{StandsFor};
+ghost use Rattle.page_model.specs.Horizon.{frames_for};
+ghost use Rattle.page_model.specs.Time.{window_of};
+ghost use Rattle.page_model.specs.ValidScene.{IsValid};
+ghost use Rattle.row_pool.specs.Pools.{row_of};
+ghost use Rattle.sweep.specs.Swept.{AreAlikeAt, AreAllBegun, HasPlaces, IsFoundIn, IsRoom, IsSwept};
+
+use crate::room::Room;
+use crate::windows::{Found, look};
+use cell_rows::{begin_rows, give_rows, push_frame, take_rows};
+use cell_tints::tints_in_frame;
+use page_model::{Scene, Setup};
+use region_split::Cuts;
+
+/// Sees all cells in the next frame, and looks at the window that ends there.
+fn step(
+    scene: &Scene,
+    setup: &Setup,
+    cuts: &Cuts,
+    frame: u32,
+    found: Found,
+    room: &mut Room,
+) -> Found
+    requires valid { IsValid scene.now }
+    requires few { frame < 2 ^ 31 }
+    requires cells { AreAlikeAt scene.now setup.now cuts.now frame }
+    requires places { HasPlaces (cells_of cuts.now) room.old }
+    requires swept { IsSwept scene.now setup.now cuts.now frame room.old.pool found }
+    ensures swept { IsSwept scene.now setup.now cuts.now (frame + 1) room.new.pool result }
+    ensures places { HasPlaces (cells_of cuts.now) room.new }
+    ensures only { OnlyRows (cells_of cuts.now) room.old.pool room.new.pool }
+{
+    let rate = setup.rate();
+    tints_in_frame(scene, setup, cuts, frame, room.tints.as_mut_slice());
+    push_frame(
+        &mut room.pool,
+        rate,
+        frame,
+        room.tints.as_slice(),
+        room.flags.as_mut_slice(),
+    );
+    if frame < u32::from(rate) {
+        return found;
+    }
+    look(
+        found,
+        cuts,
+        room.flags.as_slice(),
+        frame - u32::from(rate),
+        room.marks.as_mut_slice(),
+        room.work.as_mut_slice(),
+    )
+}
+
+/// Goes through the frames of so many windows, up to the first window that has many sure flags.
+fn pass(scene: &Scene, setup: &Setup, cuts: &Cuts, windows: u32, room: &mut Room) -> Found
+    requires valid { IsValid scene.now }
+    requires few { windows ≤ 100000 }
+    requires cells { AreAlikeCells scene.now setup.now (frames_for setup.now windows) cuts.now }
+    requires places { HasPlaces (cells_of cuts.now) room.old }
+    requires roomy { AreRoomy (window_of setup.now) (cells_of cuts.now) room.old.pool }
+    requires begun { AreAllBegun (window_of setup.now) (cells_of cuts.now) room.old.pool }
+    ensures found { IsFoundIn scene.now setup.now cuts.now windows result }
+    ensures roomy { AreRoomy (window_of setup.now) (cells_of cuts.now) room.new.pool }
+    ensures places { HasPlaces (cells_of cuts.now) room.new }
+    ensures only { OnlyRows (cells_of cuts.now) room.old.pool room.new.pool }
+{
+    let mut found = Found {
+        sure: None,
+        possible: None,
+    };
+    'frames: for frame in 0..windows + u32::from(setup.rate()) {
+        if found.sure.is_some() {
+            return found;
+        }
+        found = step(scene, setup, cuts, frame, found, room);
+    }
+    found
+}
+
+/// What is found in so many windows. The rows that it takes are given back.
+pub(crate) fn find(
+    scene: &Scene,
+    setup: &Setup,
+    cuts: &Cuts,
+    windows: u32,
+    room: &mut Room,
+) -> Found
+    requires valid { IsValid scene.now }
+    requires few { windows ≤ 100000 }
+    requires cells { AreAlikeCells scene.now setup.now (frames_for setup.now windows) cuts.now }
+    requires room { IsRoom (window_of setup.now) (cells_of cuts.now) room.old }
+    ensures found { IsFoundIn scene.now setup.now cuts.now windows result }
+    ensures room { IsRoom (window_of setup.now) (cells_of cuts.now) room.new }
+    ensures free { room.new.pool.free ≡ room.old.pool.free }
+{
+    let cells = cuts.cells();
+    take_rows(&mut room.pool, cells);
+    begin_rows(&mut room.pool, cells, setup.rate());
+    let found = pass(scene, setup, cuts, windows, room);
+    give_rows(&mut room.pool, cells);
+    found
+}
