@@ -19,4 +19,5 @@ mod moving;
 mod types;
 
 pub use cuts::Cuts;
+pub use moving::{frames_of, may_move};
 pub use types::{CutFault, Rect};

@@ -1,5 +1,5 @@
 // Which layers may move or grow, and until when they do something new.
-ghost use Rattle.std.specs.Prelude.{Some, ◌≡◌, ◌<◌, ◌≤◌, length, slice_get};
+ghost use Rattle.std.specs.Prelude.{Some, false, ◌≡◌, ◌<◌, ◌≤◌, length, slice_get};
 ghost use Rattle.std.specs.List.{list_any};
 ghost use Rattle.page_model.specs.declared.scene.Layer.{Layer as Element};
 ghost use Rattle.page_model.specs.ValidScene.{IsValid};
@@ -37,18 +37,21 @@ fn some_moves(sets: &[KeyframeSet], anims: &[Anim]) -> bool
     anims.iter().any(|anim| moves(sets, anim))
 }
 
-/// Whether a layer may move or grow.
-pub(crate) fn may_move(scene: &Scene, number: u16) -> bool
+/// Whether a layer may move or grow, as the set of one of its animations names a place or a size. One that may not is
+/// in each frame where it is in any other.
+pub fn may_move(scene: &Scene, number: u16) -> bool
     requires { number < length scene.now.layers }
-    ensures { (l : Element) → slice_get scene.now.layers number ≡ Some l
+    ensures value { (l : Element) → slice_get scene.now.layers number ≡ Some l
         → result ≡ definition.may_move scene.now.sets l }
+    ensures stays { (l : Element) → slice_get scene.now.layers number ≡ Some l → result ≡ false
+        → definition.StaysPut scene.now l }
 {
     let layer = &scene.layers.as_slice()[usize::from(number)];
     some_moves(scene.sets.as_slice(), layer.anims.as_slice())
 }
 
 /// How many of so many frames are enough for a layer: behind them it does what it does in one of them.
-pub(crate) fn frames_of(scene: &Scene, setup: &Setup, number: u16, frames: u32) -> u32
+pub fn frames_of(scene: &Scene, setup: &Setup, number: u16, frames: u32) -> u32
     requires valid { IsValid scene.now }
     requires there { number < length scene.now.layers }
     ensures few { result ≤ frames }
