@@ -1,5 +1,5 @@
 -- Groups of cells whose pixels are covered alike. This is the project's own.
-use Rattle.std.specs.Prelude.{ℕ, ◌≡◌, ◌<◌, ◌≤◌, MatchOption, Option, List, length, slice_get, slice_index, Some}
+use Rattle.std.specs.Prelude.{ℕ, ◌≡◌, ◌<◌, ◌≤◌, List, [], length, slice_get, slice_index, Some}
 use Rattle.page_model.specs.declared.scene.Layer.{Layer}
 use Rattle.page_model.specs.declared.scene.Scene.{Scene}
 use Rattle.page_model.specs.declared.setup.Setup.{Setup}
@@ -49,7 +49,6 @@ pub record AreGroupsBefore (scene : Scene) (setup : Setup) (frames : ℕ) (edges
 abbrev pub AreGroups : Scene → Setup → ℕ → Edges → Grouping → Type 0
 AreGroups scene setup frames edges groups = AreGroupsBefore scene setup frames edges (cells_between edges.xs edges.ys) groups
 
--- an earlier cell looks like a cell
-pub record IsNeighbour (scene : Scene) (setup : Setup) (frames : ℕ) (edges : Edges) (cell neighbour : ℕ) : Type 0 where
-  pub before : neighbour < cell
-  pub alike : LookAlike scene setup frames edges cell neighbour
+-- no groups, of no cells
+abbrev pub no_groups : Grouping
+no_groups = record { of = []; firsts = [] }

@@ -1,9 +1,9 @@
 // The groups of the cells of a scene.
-ghost use Rattle.std.specs.Prelude.{◌≡◌, ◌+◌, ◌<◌, IfOk, MatchOption, OnOk, length};
+ghost use Rattle.std.specs.Prelude.{◌≡◌, ◌<◌, ◌≤◌, IfOk, MatchOption, OnOk, length};
 ghost use Rattle.page_model.specs.Cells.{cells_between};
 ghost use Rattle.page_model.specs.ValidScene.{IsValid};
-ghost use Rattle.cell_groups.specs.Groups.{AreGroups, AreGroupsBefore, IsNeighbour, group_of};
-ghost use Rattle.cell_groups.specs.Homes.{AreHomes};
+ghost use Rattle.cell_groups.specs.Adding.{AddsCell, IsAlone, IsNeighbour};
+ghost use Rattle.cell_groups.specs.Groups.{AreGroups, no_groups};
 
 use crate::alike::are_alike;
 use crate::homes::{Home, homes_of};
@@ -30,7 +30,7 @@ impl Model for Groups {
 impl Groups {
     /// No groups, of no cells. It takes no memory.
     pub fn none(alloc: Global) -> Groups
-        ensures { result ≡ none }
+        ensures { result ≡ no_groups }
     {
         Groups {
             of: Vec::new(alloc),
@@ -59,19 +59,19 @@ impl Groups {
             firsts: Vec::new(alloc),
         };
         for cell in 0..cuts.cells() {
-            groups.add(scene, setup, frames, cuts, homes.as_slice(), cell)?;
+            groups.add(cuts, homes.as_slice(), cell)?;
         }
         Ok(groups)
     }
 
     /// Adds a cell to the group of one that looks like it, or as the first of a group of its own.
-    fn add(&mut self, scene: &Scene, setup: &Setup, frames: u32, cuts: &Cuts, homes: &[Home], cell: u32) -> Result<(), NoMemory>
-        requires homes { AreHomes scene.now setup.now frames homes.now }
+    fn add(&mut self, cuts: &Cuts, homes: &[Home], cell: u32) -> Result<(), NoMemory>
         requires known { cell < cells_between cuts.now.xs cuts.now.ys }
-        requires before { AreGroupsBefore scene.now setup.now frames cuts.now cell self.old }
-        ensures { OnOk result (AreGroupsBefore scene.now setup.now frames cuts.now (cell + 1) self.new) }
+        requires all { length self.old.of ≡ cell }
+        requires few { length self.old.firsts ≤ cell }
+        ensures { OnOk result (AddsCell homes.now cuts.now cell self.old self.new) }
     {
-        let group = match neighbour(scene, setup, frames, cuts, homes, cell) {
+        let group = match neighbour(cuts, homes, cell) {
             Some(neighbour) => self.of[neighbour as usize],
             None => {
                 let next = self.firsts.len() as u32;
@@ -81,13 +81,6 @@ impl Groups {
         };
         self.of.push(group)?;
         Ok(())
-    }
-
-    /// How many groups there are.
-    pub fn count(&self) -> u32
-        ensures { result ≡ length self.now.firsts }
-    {
-        self.firsts.len() as u32
     }
 
     /// The group of each cell.
@@ -106,10 +99,9 @@ impl Groups {
 }
 
 /// The cell beside a cell, or else the one above it, if no box tells the two apart.
-fn neighbour(scene: &Scene, setup: &Setup, frames: u32, cuts: &Cuts, homes: &[Home], cell: u32) -> Option<u32>
-    requires homes { AreHomes scene.now setup.now frames homes.now }
-    requires known { cell < cells_between cuts.now.xs cuts.now.ys }
-    ensures { MatchOption result (Unit {0}) (IsNeighbour scene.now setup.now frames cuts.now cell) }
+fn neighbour(cuts: &Cuts, homes: &[Home], cell: u32) -> Option<u32>
+    requires { cell < cells_between cuts.now.xs cuts.now.ys }
+    ensures { MatchOption result (IsAlone homes.now cuts.now cell) (IsNeighbour homes.now cuts.now cell) }
 {
     let across = cuts.xs().len() as u32 - 1;
     let here = cuts.cell(cell);

@@ -1,5 +1,5 @@
 // Where each box is in the frames that are looked at.
-ghost use Rattle.std.specs.Prelude.{Some, ◌≡◌, ◌<◌, IfOk, length, slice_get};
+ghost use Rattle.std.specs.Prelude.{Some, ◌≡◌, ◌⊎◌, ◌<◌, ◌≤ℤ◌, IfOk, length, slice_get};
 ghost use Rattle.page_model.specs.declared.scene.Layer.{Layer as Element};
 ghost use Rattle.page_model.specs.Slot as slots;
 ghost use Rattle.page_model.specs.ValidScene.{IsValid};
@@ -64,17 +64,37 @@ fn fixed_at(state: &LayerState) -> Home
     }
 }
 
+/// The lesser of two numbers.
+fn lesser(one: i32, other: i32) -> i32
+    ensures one { result ≤ℤ one }
+    ensures other { result ≤ℤ other }
+    ensures either { (result ≡ one) ⊎ (result ≡ other) }
+{
+    if one < other { one } else { other }
+}
+
+/// The greater of two numbers.
+fn greater(one: i32, other: i32) -> i32
+    ensures one { one ≤ℤ result }
+    ensures other { other ≤ℤ result }
+    ensures either { (result ≡ one) ⊎ (result ≡ other) }
+{
+    if one < other { other } else { one }
+}
+
 /// An area with all places where a box of this state may be.
 fn grown(area: Area, state: &LayerState) -> Area
     requires { IsInSlots (state_as state.now) }
     ensures home { IsAtHome (state_as state.now) (home.Within result) }
     ensures kept { HoldsArea area result }
 {
+    let across = side_of(state.left, state.width);
+    let down = side_of(state.top, state.height);
     Area {
-        left: area.left.min(state.left.lo),
-        right: area.right.max(state.left.hi + state.width.hi),
-        top: area.top.min(state.top.lo),
-        bottom: area.bottom.max(state.top.hi + state.height.hi),
+        left: lesser(area.left, across.begin.lo),
+        right: greater(area.right, across.end.hi),
+        top: lesser(area.top, down.begin.lo),
+        bottom: greater(area.bottom, down.end.hi),
     }
 }
 
