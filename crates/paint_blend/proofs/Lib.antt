@@ -1,5 +1,6 @@
 mod ExactLemmas
 mod HeldLemmas
+mod HideLemmas
 mod OrderLemmas
 mod ReadyLemmas
 mod SpanLemmas
