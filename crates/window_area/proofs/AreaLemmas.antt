@@ -13,7 +13,7 @@ use Rattle.window_area.proofs.SlideLemmas.{banded, window-slides}
 use Rattle.window_area.proofs.SumLemmas.{sum-none, sum-same}
 
 -- what a column of pixels counts
-abbrev column_weight : List ℕ → List ℕ → List Bool → ℤ → ℕ → ℕ
+abbrev pub column_weight : List ℕ → List ℕ → List Bool → ℤ → ℕ → ℕ
 column_weight xs ys flags y column = column_area (bands xs) ys flags 256 (band_of xs column) y
 
 one-column : (height : ℕ) (across : Bool) (down flag : ℕ → Bool)
@@ -52,7 +52,7 @@ strip_area-columns xs ys flags y columns are so place =
     ∙ sym (flagged_area-held xs ys flags (pos place) (pos y))
 
 -- over a stride of the rows
-area-slides : (xs ys : List ℕ) (flags : List Bool) (window : Window) (stride place : ℕ) → AreEdges ys → window.size ≡ 256
+pub area-slides : (xs ys : List ℕ) (flags : List Bool) (window : Window) (stride place : ℕ) → AreEdges ys → window.size ≡ 256
     → IsWindow ys window → IsStride ys window stride → (t : ℕ) → t ≤ stride
     → area_at xs ys flags place (window.place + t)
     + t * held 341 (end_of xs) (λ p. cell_value (bands xs) flags (band_of xs p) window.first) (pos place)

@@ -8,5 +8,7 @@ pub mod ScanLemmas
 pub mod FlaggedLemmas
 pub mod ColumnLemmas
 pub mod AreaLemmas
+pub mod WidthLemmas
+pub mod BoundLemmas
 pub mod RowScanLemmas
 pub mod MarkedLemmas

@@ -169,3 +169,17 @@ best-next area last stride best later so there is between =
         fits = omega (arith, so.fits);
       }
     ]
+
+-- no place of the row has more, so the best one stays
+pub best-kept : (area : ℕ → ℕ → ℕ) (last stride : ℕ) (best : BestRow) → IsBestUpTo area last best
+    → ((place : ℕ) → area place (last + stride) ≤ best.most.area)
+    → ((place t : ℕ) → t < stride → (area place (last + t) ≤ area place last) ⊎ (area place (last + t) < area place (last + stride)))
+    → IsBestUpTo area (last + stride) best
+best-kept area last stride best so no_more between = record {
+  has = so.has;
+  above = λ place.
+      above-kept (area place) last stride best.most.area best.row best.most.area (so.above place) so.fits (no_more place) (between place)
+      (omega arith);
+  first = so.first;
+  fits = omega (arith, so.fits);
+}

@@ -1,6 +1,6 @@
 -- How many flagged pixels the 341 by 256 rectangle of WCAG 2.2 holds at a position. Edges cut the viewport into cells, and a
 -- pixel is flagged where its cell is. The position may be any whole one: the rectangle may lie past the viewport's ends.
-use Rattle.std.specs.Prelude.{ℕ, ℤ, pos, Bool, false, ◌≡◌, ◌+◌, ◌*◌, ◌≤ℤ◌, ◌+ℤ◌, ◌&&◌, List, slice_index_or}
+use Rattle.std.specs.Prelude.{ℕ, ℤ, pos, Bool, false, ◌≡◌, ◌+◌, ◌*◌, ◌≤◌, ◌≤ℤ◌, ◌+ℤ◌, ◌&&◌, List, slice_index_or}
 use Rattle.std.specs.Int.Signed.{le_z, lt_z}
 use Rattle.page_model.specs.Flash.{area}
 use Rattle.window_area.specs.Edges.{bands, band_of, end_of}
@@ -25,6 +25,14 @@ is_flagged xs ys flags column row = cell_flag (bands xs) flags (band_of xs colum
 unfoldable pub flagged_area : List ℕ → List ℕ → List Bool → ℤ → ℤ → ℕ
 flagged_area xs ys flags x y =
     area (end_of xs) (end_of ys) (λ column row. in_rectangle x y column row && is_flagged xs ys flags column row)
+
+-- how many flagged pixels the viewport has
+unfoldable pub total_area : List ℕ → List ℕ → List Bool → ℕ
+total_area xs ys flags = area (end_of xs) (end_of ys) (λ column row. is_flagged xs ys flags column row)
+
+-- the rectangle never holds more than all of them
+abbrev pub HoldsNoMoreThanAll : List ℕ → List ℕ → List Bool → Type 0
+HoldsNoMoreThanAll xs ys flags = (x y : ℤ) → flagged_area xs ys flags x y ≤ total_area xs ys flags
 
 -- the position, from 0 on, is above or on the row of each such position that holds as much
 abbrev pub IsFirstRow : List ℕ → List ℕ → List Bool → ℕ → ℤ → Type 0

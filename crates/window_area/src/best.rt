@@ -1,11 +1,12 @@
 // The greatest flagged area, and where it is.
-ghost use Rattle.std.specs.Prelude.{ℤ, pos, ◌≡◌, ◌*◌, ◌≤◌, ◌≤ℤ◌, length, nat_lt, if◌then◌else◌};
+ghost use Rattle.std.specs.Prelude.{ℤ, pos, ◌≡◌, ◌+◌, ◌*◌, ◌≤◌, ◌≤ℤ◌, length, min, nat_lt, if◌then◌else◌};
 ghost use Rattle.window_area.specs.Edges.{AreEdges, bands};
 ghost use Rattle.window_area.specs.FlaggedArea.{flagged_area, IsFirstColumn, IsFirstRow};
-ghost use Rattle.window_area.specs.Sliding.{IsBestRow};
+ghost use Rattle.window_area.specs.Sliding.{AreWeights, IsBestRow, IsLookedAt};
 
-use crate::columns::{open_columns, slide_columns};
+use crate::columns::{open_columns, row_of, slide_columns};
 use crate::strip::{Most, most_in_strip};
+use crate::total::flagged_width;
 use crate::window::Window;
 
 /// The size of WCAG 2.2's rectangle, in pixels.
@@ -67,6 +68,42 @@ pub fn greatest(xs: &[u16], ys: &[u16], flags: &[bool], work: &mut [u32]) -> Bes
     }
 }
 
+/// The best row so far, and what no rectangle in the row where the window stands holds more than.
+#[derive(Clone, Copy)]
+struct Lead {
+    best: BestRow,
+    bound: u32,
+}
+
+impl Lead {
+    /// After the window of rows has come to this row, where a rectangle is looked for only if one may hold more than
+    /// the best.
+    fn looked_at(self, row: u32, xs: &[u16], columns: &[u32]) -> Lead
+        requires edges { AreEdges xs.now }
+        requires weights { AreWeights xs.now columns.now }
+        ensures { IsLookedAt xs.now columns.now row self result }
+    {
+        if self.bound <= self.best.most.area {
+            return self;
+        }
+        let most = most_in_strip(xs, columns, WIDTH);
+        Lead {
+            best: self.best.or_later(BestRow { row, most }),
+            bound: most.area,
+        }
+    }
+}
+
+/// What no rectangle holds more than a stride further down, where none holds more than a bound and each row of pixels that
+/// comes in has so many flagged ones.
+fn bound_after(bound: u32, stride: u32, width: u32) -> u32
+    requires bound { bound ≤ 341 * 256 }
+    requires stride { stride ≤ 4096 }
+    ensures { result ≡ min (bound + stride * min width 341) (341 * 256) }
+{
+    (bound + stride * width.min(WIDTH)).min(WIDTH * HEIGHT)
+}
+
 /// The first row in which a rectangle holds most.
 fn best_row(xs: &[u16], ys: &[u16], flags: &[bool], work: &mut [u32]) -> BestRow
     requires columns { AreEdges xs.now }
@@ -80,17 +117,17 @@ fn best_row(xs: &[u16], ys: &[u16], flags: &[bool], work: &mut [u32]) -> BestRow
     let across = xs.len() - 1;
     let mut window = Window::open(ys, HEIGHT);
     open_columns(across, ys, flags, HEIGHT, work);
-    let mut best = BestRow {
-        row: 0,
-        most: most_in_strip(xs, work, WIDTH),
+    let most = most_in_strip(xs, work, WIDTH);
+    let mut lead = Lead {
+        best: BestRow { row: 0, most },
+        bound: most.area,
     };
     while let Some(stride) = window.stride(ys) {
+        let width = flagged_width(xs, row_of(flags, across, window.next));
+        lead.bound = bound_after(lead.bound, stride, width);
         slide_columns(across, ys, flags, &window, stride, work);
         window = window.slid(ys, stride);
-        best = best.or_later(BestRow {
-            row: window.place,
-            most: most_in_strip(xs, work, WIDTH),
-        });
+        lead = lead.looked_at(window.place, xs, work);
     }
-    best
+    lead.best
 }
