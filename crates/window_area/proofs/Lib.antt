@@ -10,5 +10,6 @@ pub mod ColumnLemmas
 pub mod AreaLemmas
 pub mod WidthLemmas
 pub mod BoundLemmas
+pub mod GreatestLemmas
 pub mod RowScanLemmas
 pub mod MarkedLemmas

@@ -87,9 +87,11 @@ row_width xs row_flags = sum_below (end_of xs) (λ column. cond (slice_index_or 
 abbrev pub area_at : List ℕ → List ℕ → List Bool → ℕ → ℕ → ℕ
 area_at xs ys flags column row = flagged_area xs ys flags (pos column) (pos row)
 
--- no position from 0 on has more than this one, none in a row before has as much, and none in this row before it
-pub record IsBestRow (xs ys : List ℕ) (flags : List Bool) (row column most : ℕ) : Type 0 where
-  pub has : area_at xs ys flags column row ≡ most
+-- no position from 0 on has more than this one, none in a row before has as much, and none in this row before it; where none has more
+-- than a limit, that is told in its place
+pub record IsBestRow (xs ys : List ℕ) (flags : List Bool) (limit row column most : ℕ) : Type 0 where
+  pub least : limit ≤ most
+  pub has : limit < most → area_at xs ys flags column row ≡ most
   pub greatest : (x y : ℕ) → area_at xs ys flags x y ≤ most
   pub first_row : (x y : ℕ) → most ≤ area_at xs ys flags x y → row ≤ y
   pub first_column : (x : ℕ) → most ≤ area_at xs ys flags x row → column ≤ x

@@ -11,9 +11,10 @@ most_in_strip-most-requires-clause-weights c =
 
 pub loop-stride-init : goal.loop-stride-init
 loop-stride-init c =
-    row_scan-begins c.args.xs.now c.args.ys.now c.args.flags.now c.open-window.result c.open_columns.new.columns
-    c.most_in_strip-most.result c.requires.columns c.open-window.ensures.window c.open-window.ensures.size
+    row_scan-begins c.args.xs.now c.args.ys.now c.args.flags.now c.args.limit c.open-window.result c.open_columns.new.columns
+    c.most_in_strip-most.result c.or_later.result c.requires.columns c.open-window.ensures.window c.open-window.ensures.size
     c.open-window.ensures.begins c.open_columns.ensures c.most_in_strip-most.ensures.most c.most_in_strip-most.ensures.early
+    (rw c.limit_only.ensures at c.or_later.ensures)
 
 pub bound_after-requires-clause-stride : goal.bound_after-requires-clause-stride
 bound_after-requires-clause-stride c =
@@ -35,7 +36,7 @@ loop-stride-smaller c =
 
 pub loop-stride-preserved : goal.loop-stride-preserved
 loop-stride-preserved c =
-    row_scan-next c.args.xs.now c.args.ys.now c.args.flags.now c.loop-stride.window c.loop-stride.work c.loop-stride.lead
+    row_scan-next c.args.xs.now c.args.ys.now c.args.flags.now c.args.limit c.loop-stride.window c.loop-stride.work c.loop-stride.lead
     c.in-Some.stride c.bound_after.result c.slid-window.result c.slide_columns.new.columns c.looked_at-lead.result c.requires.columns
     c.requires.rows c.loop-stride.invariant c.in-Some.ensures c.slid-window.ensures.window c.slid-window.ensures.place
     c.slid-window.ensures.size c.slide_columns.ensures
@@ -47,7 +48,7 @@ loop-stride-preserved c =
 
 pub returns-clause-best : goal.returns-clause-best
 returns-clause-best c =
-    row_scan-ends c.args.xs.now c.args.ys.now c.args.flags.now c.loop-stride.window c.loop-stride.work c.loop-stride.lead
+    row_scan-ends c.args.xs.now c.args.ys.now c.args.flags.now c.args.limit c.loop-stride.window c.loop-stride.work c.loop-stride.lead
     c.loop-stride.invariant c.in_default.ensures
 
 pub returns-clause-row : goal.returns-clause-row
