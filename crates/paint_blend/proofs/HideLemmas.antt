@@ -1,5 +1,5 @@
 -- What lies under an opaque box isn't seen, so painting may begin at it.
-use Rattle.std.proofs.Common.{◌≡◌, ℕ, List, ◌+◌, ◌<◌, ◌≤◌, take, drop, get_or, length, arith, refl, sym, ap, ◌∙◌, subst}
+use Rattle.std.proofs.Common.{◌≡◌, ℕ, zero, suc, List, ◌+◌, ◌-◌, ◌≤◌, take, drop, get_or, length, arith, refl, sym, ap, ◌∙◌, subst}
 use Rattle.std.specs.Prelude.{ℤ, pos, negsuc, ◌≤ℤ◌, fold, max, min}
 use Rattle.std.proofs.lemmas.Int.{ints}
 use Rattle.std.proofs.lemmas.List.{take-append-drop}
@@ -13,7 +13,8 @@ use Rattle.frame_state.specs.declared.types.LayerState.{LayerState}
 use Rattle.frame_state.specs.States.{IsInSlot, IsInSlots, eight_bits, state_as, states_as}
 use Rattle.frame_state.proofs.ListLemmas.{states_as-there}
 use Rattle.wide_laws.proofs.PaintLemmas.{blend-ends}
-use Rattle.paint_blend.specs.Paint.{AreReadyBoxes, HidesAt, OpaqueHides, own_tint}
+use Rattle.paint_blend.specs.Paint.{AreReadyBoxes, OpaqueHides, own_tint}
+use Rattle.paint_blend.specs.Seen.{AreMissed, BeginsAt}
 
 -- a number whose lower end is the greatest is the greatest at both ends
 whole-full : (loose : Loose) → IsInSlot eight_bits loose → loose.lo ≡ pos 255 → span_of loose ≡ full_alpha
@@ -71,30 +72,69 @@ opaque_hides state is column row backdrop hides =
     ∙ ap (λ alpha. tint_by_alpha state alpha backdrop) (combined-full state is hides.cover hides.alpha)
     ∙ over-opaque state backdrop is
 
--- the boxes over one that hides, painted over its own colour, give what all boxes give
-fold-from : (states : ℕ → LooseState) (column row : ℕ) (boxes : List ℕ) (place : ℕ) (under : Tint) → place < length boxes
-    → HidesAt (states (get_or boxes place 0)) column row → OpaqueHides (states (get_or boxes place 0))
-    → fold (tint_box states column row) (own_tint (states (get_or boxes place 0))) (drop (place + 1) boxes)
-    ≡ fold (tint_box states column row) under boxes
-fold-from states column row boxes place under within hides law =
-    let painted = tint_box states column row in
-    let before = fold painted under (take place boxes) in
-    let from = fold_more painted under boxes place 0 within in
-    ap (λ tint. fold painted tint (drop (place + 1) boxes)) (sym (from ∙ law column row before hides))
-    ∙ sym (fold-append painted under (take (place + 1) boxes) (drop (place + 1) boxes))
-    ∙ ap (fold painted under) (take-append-drop (place + 1) boxes)
+-- the boxes at these places are missed, so they change nothing
+fold-missed : (states : List LayerState) (column row : ℕ) (boxes : List ℕ) (under : Tint) (first more : ℕ) → first + more ≤ length boxes
+    → AreMissed states boxes column row first (first + more)
+    → fold (tint_box (states_as states) column row) under (take (first + more) boxes)
+    ≡ fold (tint_box (states_as states) column row) under (take first boxes)
+fold-missed states column row boxes under first zero within missed =
+    ap (λ n. fold (tint_box (states_as states) column row) under (take n boxes)) (omega arith)
+fold-missed states column row boxes under first (suc more) within missed =
+    let painted = tint_box (states_as states) column row in
+    let before = fold painted under (take (first + more) boxes) in
+    let number : ℕ = get_or boxes (first + more) 0 in
+    let state = states_as states number in
+    ap (λ n. fold painted under (take n boxes)) (omega arith)
+    ∙ fold_more painted under boxes (first + more) 0 (omega arith)
+    ∙ ap (λ shown. painted_where shown (tint_over state (span_of state.alpha) before) before)
+    (missed (first + more) (omega arith) (omega arith))
+    ∙ fold-missed states column row boxes under first more (omega arith) (λ place from below. missed place from (omega arith))
 
--- so for states that are handed over as the code has them
-pub seen-from : (states : List LayerState) (column row : ℕ) (boxes rest : List ℕ) (place : ℕ) (d : LayerState) (under tint result : Tint)
-    → AreReadyBoxes states boxes → place < length boxes → HidesAt (states_as states (get_or boxes place 0)) column row
-    → OpaqueHides (state_as (get_or states (get_or boxes place 0) d))
-    → tint ≡ own_tint (state_as (get_or states (get_or boxes place 0) d)) → rest ≡ drop (place + 1) boxes
+-- what is painted below a place
+abbrev below : List LayerState → ℕ → ℕ → List ℕ → Tint → ℕ → Tint
+below states column row boxes under place = fold (tint_box (states_as states) column row) under (take place boxes)
+
+-- from there on the other boxes give what all give
+fold-on : (states : List LayerState) (column row : ℕ) (boxes rest : List ℕ) (under tint result : Tint) (place : ℕ)
+    → tint ≡ below states column row boxes under place → rest ≡ drop place boxes
     → result ≡ fold (tint_box (states_as states) column row) tint rest
     → result ≡ fold (tint_box (states_as states) column row) under boxes
-seen-from states column row boxes rest place d under tint result ready within hides law own above painted =
-    let number : ℕ = get_or boxes place 0 in
-    let there = states_as-there states number d (ready place 0 within).there in
+fold-on states column row boxes rest under tint result place is above painted =
+    let next = tint_box (states_as states) column row in
     painted
-    ∙ ap (fold (tint_box (states_as states) column row) tint) above
-    ∙ ap (λ before. fold (tint_box (states_as states) column row) before (drop (place + 1) boxes)) (own ∙ ap own_tint (sym there))
-    ∙ fold-from (states_as states) column row boxes place under within hides (subst OpaqueHides (sym there) law)
+    ∙ ap (fold next tint) above
+    ∙ ap (λ before. fold next before (drop place boxes)) is
+    ∙ sym (fold-append next under (take place boxes) (drop place boxes))
+    ∙ ap (fold next under) (take-append-drop place boxes)
+
+-- where all boxes are painted but those that are missed at first
+pub seen-from_ground : (states : List LayerState) (column row : ℕ) (boxes rest : List ℕ) (above : ℕ) (under result : Tint)
+    → above ≤ length boxes → AreMissed states boxes column row 0 above → rest ≡ drop above boxes
+    → result ≡ fold (tint_box (states_as states) column row) under rest
+    → result ≡ fold (tint_box (states_as states) column row) under boxes
+seen-from_ground states column row boxes rest above under result inside missed rest_is painted =
+    let same : above ≡ 0 + above = omega arith in
+    let kept = fold-missed states column row boxes under 0 above (omega (arith, inside)) (λ place from before. missed place from (omega arith)) in
+    fold-on states column row boxes rest under under result above
+    (sym (ap (below states column row boxes under) same ∙ kept)) rest_is painted
+
+-- where one hides what lies under it
+pub seen-from_box : (states : List LayerState) (column row : ℕ) (boxes rest : List ℕ) (place above : ℕ) (d : LayerState)
+    (under tint result : Tint) → AreReadyBoxes states boxes → above ≤ length boxes → BeginsAt states boxes column row place above
+    → OpaqueHides (state_as (get_or states (get_or boxes place 0) d))
+    → tint ≡ own_tint (state_as (get_or states (get_or boxes place 0) d)) → rest ≡ drop above boxes
+    → result ≡ fold (tint_box (states_as states) column row) tint rest
+    → result ≡ fold (tint_box (states_as states) column row) under boxes
+seen-from_box states column row boxes rest place above d under tint result ready inside begins law own rest_is painted =
+    let number : ℕ = get_or boxes place 0 in
+    let same = sym (states_as-there states number d (ready place 0 begins.there).there) in
+    let next = tint_box (states_as states) column row in
+    let more : ℕ = above - (place + 1) in
+    let upto : place + 1 + more ≡ above = let before = begins.before in omega arith in
+    let hidden = subst OpaqueHides same law column row (fold next under (take place boxes)) begins.hides in
+    let kept = fold-missed states column row boxes under (place + 1) more (omega (arith, upto, inside))
+    (λ k from before. begins.missed k from (omega (arith, upto))) in
+    fold-on states column row boxes rest under tint result above
+    (own ∙ ap own_tint same ∙ sym hidden ∙ sym (fold_more next under boxes place 0 begins.there) ∙ sym kept
+    ∙ ap (λ n. fold next under (take n boxes)) upto)
+    rest_is painted

@@ -3,4 +3,5 @@ mod HeldLemmas
 mod HideLemmas
 mod OrderLemmas
 mod ReadyLemmas
+mod SeenLemmas
 mod SpanLemmas

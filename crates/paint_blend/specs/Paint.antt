@@ -4,7 +4,7 @@ use Rattle.page_model.specs.declared.colour.Tint.{Tint}
 use Rattle.page_model.specs.declared.scene.Layer.{Layer}
 use Rattle.page_model.specs.declared.scene.Scene.{Scene}
 use Rattle.page_model.specs.declared.setup.Setup.{Setup}
-use Rattle.page_model.specs.Enclosure.{IsLooseStateAt, LooseState, surely, wide}
+use Rattle.page_model.specs.Enclosure.{IsLooseStateAt, LooseState, surely, surely_not, wide}
 use Rattle.page_model.specs.LayerAt.{IsStateAt, State}
 use Rattle.page_model.specs.TintOf as definition
 use Rattle.page_model.specs.TintOf.{both, covers_surely, painted_where, span_of, tint_by, tint_over}
@@ -25,6 +25,10 @@ pub record HidesAt (state : LooseState) (column row : ℕ) : Type 0 where
   pub is_there : both state.shown (covers_surely state column row) ≡ surely
   pub cover : state.cover.lo ≡ pos 255
   pub alpha : state.alpha.lo ≡ pos 255
+
+-- a state surely isn't shown, or doesn't cover the pixel
+abbrev pub IsMissed : LooseState → ℕ → ℕ → Type 0
+IsMissed state column row = both state.shown (covers_surely state column row) ≡ surely_not
 
 -- a state's own colour as a tint
 abbrev pub own_tint : LooseState → Tint

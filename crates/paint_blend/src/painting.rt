@@ -1,5 +1,5 @@
 // The tint of a pixel.
-ghost use Rattle.std.specs.Prelude.{ℕ, false, ◌≡◌, ◌^◌, ◌<◌, ◌+◌, drop, fold, length, is_some};
+ghost use Rattle.std.specs.Prelude.{ℕ, false, ◌≡◌, ◌^◌, ◌<◌, ◌≤◌, drop, fold, length, is_some};
 ghost use Rattle.page_model.specs.Colour as colours;
 ghost use Rattle.page_model.specs.Enclosure.{LooseState};
 ghost use Rattle.page_model.specs.LayerAt.{State};
@@ -14,7 +14,7 @@ ghost use Rattle.paint_blend.specs.Paint.{AreKnown, AreReady, AreReadyBoxes, Are
 use crate::blending::{blended_span, combined_span, hull, span_of};
 use crate::covering::is_at;
 use crate::span::Span;
-use crate::topmost::topmost_hiding;
+use crate::topmost::seen_from;
 use fix_span::Loose;
 use frame_state::{LayerState, Shown, states_at};
 use page_model::{Rgb, Scene, Setup, Tint};
@@ -163,12 +163,12 @@ fn hiding_tint(state: &LayerState) -> Tint
     tint_by(span_of(state.r), span_of(state.g), span_of(state.b))
 }
 
-// The boxes above the one at a place.
-fn above(boxes: &[u16], place: usize) -> &[u16]
-    requires { place < length boxes.now }
-    ensures { result.now ≡ drop (place + 1) boxes.now }
+// The boxes from a place on.
+fn boxes_from(boxes: &[u16], place: usize) -> &[u16]
+    requires { place ≤ length boxes.now }
+    ensures { result.now ≡ drop place boxes.now }
 {
-    &boxes[place + 1..]
+    &boxes[place..]
 }
 
 // The tint after boxes are painted over another tint, in their order.
@@ -183,20 +183,23 @@ fn with_boxes(states: &[LayerState], boxes: &[u16], x: u16, y: u16, under: Tint)
     tint
 }
 
-// The tint of a pixel. What lies under the topmost box that hides it isn't painted.
-fn seen(scene: &Scene, states: &[LayerState], x: u16, y: u16) -> Tint
+// The tint of a pixel. What lies under the topmost box that hides it isn't painted, and boxes that surely miss the pixel are
+// looked at once.
+fn painted(scene: &Scene, states: &[LayerState], x: u16, y: u16) -> Tint
     requires valid { IsValid scene.now }
     requires states { length states.now ≡ length scene.now.layers }
     requires ready { AreReady scene.now (states_as states.now) }
     ensures { result ≡ definition.tint_of scene.now (states_as states.now) x y }
 {
     let boxes = scene.order.as_slice();
-    match topmost_hiding(states, boxes, x, y) {
+    let seen = seen_from(states, boxes, x, y);
+    let above = boxes_from(boxes, seen.above);
+    match seen.hiding {
         Some(place) => {
             let tint = hiding_tint(&states[boxes[place] as usize]);
-            with_boxes(states, above(boxes, place), x, y, tint)
+            with_boxes(states, above, x, y, tint)
         }
-        None => with_boxes(states, boxes, x, y, ground(scene, states)),
+        None => with_boxes(states, above, x, y, ground(scene, states)),
     }
 }
 
@@ -215,7 +218,7 @@ pub fn tint_of(scene: &Scene, states: &[LayerState], x: u16, y: u16) -> Tint
         → result ≡ definition.single (colours.painted scene.now known x y) }
     ensures ordered { IsOrdered result }
 {
-    seen(scene, states, x, y)
+    painted(scene, states, x, y)
 }
 
 /// The tint of a pixel in frame `k`, by the states of the own kind, whichever they are. It holds the pixel's

@@ -8,8 +8,8 @@ use Rattle.paint_blend.proofs.painting.tint_of.Goals as goal
 
 pub returns-clause-exact : goal.returns-clause-exact
 returns-clause-exact c known are =
-    c.seen.ensures ∙ tint_of-known c.args.scene.now (states_as c.args.states.now) known c.args.x c.args.y c.requires.valid are
+    c.painted.ensures ∙ tint_of-known c.args.scene.now (states_as c.args.states.now) known c.args.x c.args.y c.requires.valid are
 
 pub returns-clause-ordered : goal.returns-clause-ordered
 returns-clause-ordered c =
-    subst IsOrdered (sym c.seen.ensures) (tint_of-ordered c.args.scene.now (states_as c.args.states.now) c.args.x c.args.y)
+    subst IsOrdered (sym c.painted.ensures) (tint_of-ordered c.args.scene.now (states_as c.args.states.now) c.args.x c.args.y)
