@@ -11,12 +11,12 @@ use Rattle.page_model.specs.declared.setup.Setup.{Setup}
 use Rattle.page_model.specs.Colour.{body_colour}
 use Rattle.page_model.specs.Enclosure.{LooseState}
 use Rattle.page_model.specs.LayerAt.{State}
-use Rattle.page_model.specs.TintOf.{tint_box, tint_ground}
+use Rattle.page_model.specs.TintOf.{tint_box}
 use Rattle.page_model.specs.ValidScene.{IsValid}
 use Rattle.frame_state.specs.declared.types.LayerState.{LayerState}
 use Rattle.frame_state.specs.States.{AreExact, IsInSlots, state_as, states_as}
 use Rattle.frame_state.proofs.ListLemmas.{states_as-there}
-use Rattle.paint_blend.specs.Paint.{AreKnown, AreReady, AreStates, box_over}
+use Rattle.paint_blend.specs.Paint.{AreKnown, AreReady, AreReadyBoxes, AreStates, IsReadyBox, box_over}
 
 some_there : {X : Type 0} (o : Option X) → is_some o ≡ true → (x : X) × (o ≡ Some x)
 some_there None e = absurd (cc)
@@ -35,36 +35,42 @@ ground-ready scene states d same some ready coloured =
     subst IsInSlots (states_as-there states 0 d (omega arith)) (ready 0 body body_is (is_some-there body.colour colour.0 colour_is)))
 
 -- and those of the boxes
-pub box-inside : (scene : Scene) (i : ℕ) → IsValid scene → i < length scene.order → get_or scene.order i 0 < length scene.layers
-box-inside scene i valid within =
-    ((valid.order.boxes (get_or scene.order i 0)).0 (All-contains_itself scene.order i 0 within)).1
+boxes-ready : (scene : Scene) (states : List LayerState) → IsValid scene → length states ≡ length scene.layers
+    → AreReady scene (states_as states) → AreReadyBoxes states scene.order
+boxes-ready scene states valid same ready i d within =
+    let number : ℕ = get_or scene.order i d in
+    let box = (valid.order.boxes number).0 (All-contains_itself scene.order i d within) in
+    let inside : number < length scene.layers = box.1 in
+    record {
+      there = omega (arith, inside);
+      ready = elim (slice_get_cases scene.layers number).1 [
+        | inl found ↦ ready number found.0 found.2 (valid.boxes number found.0 box.0 found.2)
+        | inr past ↦ absurd (let far = past.0 in omega arith)
+      ];
+    }
 
-pub box-ready : (scene : Scene) (states : List LayerState) (i : ℕ) (d : LayerState) → IsValid scene → length states ≡ length scene.layers
-    → AreReady scene (states_as states) → i < length scene.order → IsInSlots (state_as (get_or states (get_or scene.order i 0) d))
-box-ready scene states i d valid same ready within =
-    let number : ℕ = get_or scene.order i 0 in
-    let there = (valid.order.boxes number).0 (All-contains_itself scene.order i 0 within) in
-    let inside : number < length scene.layers = there.1 in
-    elim (slice_get_cases scene.layers number).1 [
-      | inl found ↦
-          subst IsInSlots (states_as-there states number d (omega arith))
-          (ready number found.0 found.2 (valid.boxes number found.0 there.0 found.2))
-      | inr past ↦ absurd (let far = past.0 in omega arith)
-    ]
+-- of boxes that are those of the paint order
+pub order-ready : (scene : Scene) (states : List LayerState) (boxes : List ℕ) → boxes ≡ scene.order → IsValid scene
+    → length states ≡ length scene.layers → AreReady scene (states_as states) → AreReadyBoxes states boxes
+order-ready scene states boxes are valid same ready =
+    subst (AreReadyBoxes states) (sym are) (boxes-ready scene states valid same ready)
+
+pub state-ready : (states : List LayerState) (number : ℕ) (d : LayerState) → IsReadyBox states number
+    → IsInSlots (state_as (get_or states number d))
+state-ready states number d is = subst IsInSlots (states_as-there states number d is.there) is.ready
 
 -- the tint after one more box
-pub box-more : (scene : Scene) (states : List LayerState) (x y i : ℕ) (d : LayerState) (before next : Tint) → IsValid scene
-    → length states ≡ length scene.layers → i < length scene.order
-    → before ≡ fold (tint_box (states_as states) x y) (tint_ground scene (states_as states)) (take i scene.order)
-    → next ≡ box_over (state_as (get_or states (get_or scene.order i 0) d)) x y before
-    → next ≡ fold (tint_box (states_as states) x y) (tint_ground scene (states_as states)) (take (i + 1) scene.order)
-box-more scene states x y i d before next valid same within is painted =
-    let number : ℕ = get_or scene.order i 0 in
-    let inside = box-inside scene i valid within in
+pub box-more : (states : List LayerState) (boxes : List ℕ) (x y i : ℕ) (d : LayerState) (under before next : Tint)
+    → AreReadyBoxes states boxes → i < length boxes
+    → before ≡ fold (tint_box (states_as states) x y) under (take i boxes)
+    → next ≡ box_over (state_as (get_or states (get_or boxes i 0) d)) x y before
+    → next ≡ fold (tint_box (states_as states) x y) under (take (i + 1) boxes)
+box-more states boxes x y i d under before next are within is painted =
+    let number : ℕ = get_or boxes i 0 in
     painted
-    ∙ ap (λ (state : LooseState). box_over state x y before) (sym (states_as-there states number d (omega arith)))
+    ∙ ap (λ (state : LooseState). box_over state x y before) (sym (states_as-there states number d (are i 0 within).there))
     ∙ ap (λ (tint : Tint). tint_box (states_as states) x y tint number) is
-    ∙ sym (fold_more (tint_box (states_as states) x y) (tint_ground scene (states_as states)) scene.order i 0 within)
+    ∙ sym (fold_more (tint_box (states_as states) x y) under boxes i 0 within)
 
 -- the exact states are known ones
 pub exact-known : (scene : Scene) (setup : Setup) (frame : ℕ) (loose : ℕ → LooseState) (states : ℕ → State) → AreExact scene setup frame loose

@@ -7,8 +7,8 @@ ghost use Rattle.frame_state.specs.States.{IsInSlot, IsInSlots, loose_as, state_
 use fix_span::Loose;
 use frame_state::{LayerState, Shown};
 
-/// How surely both of two things are so.
-pub fn both(first: Shown, second: Shown) -> Shown
+// How surely both of two things are so.
+fn both(first: Shown, second: Shown) -> Shown
     ensures { sureness_of result ≡ definition.both (sureness_of first) (sureness_of second) }
 {
     match (first, second) {
@@ -40,13 +40,25 @@ fn spans(from: Loose, size: Loose, at: u16) -> Shown
     }
 }
 
-/// How surely a layer covers a pixel.
-pub fn covers(state: &LayerState, x: u16, y: u16) -> Shown
+// How surely a layer covers a pixel. Rows are looked at only in the columns that it may cover.
+fn covers(state: &LayerState, x: u16, y: u16) -> Shown
     requires { IsInSlots (state_as state.now) }
     ensures { sureness_of result ≡ definition.covers_surely (state_as state.now) x y }
 {
-    both(
-        spans(state.left, state.width, x),
-        spans(state.top, state.height, y),
-    )
+    match spans(state.left, state.width, x) {
+        Shown::No => Shown::No,
+        across => both(across, spans(state.top, state.height, y)),
+    }
+}
+
+/// How surely a layer is shown and covers a pixel. Where it isn't shown its box isn't looked at.
+pub fn is_at(state: &LayerState, x: u16, y: u16) -> Shown
+    requires { IsInSlots (state_as state.now) }
+    ensures { sureness_of result
+        ≡ definition.both (sureness_of state.now.shown) (definition.covers_surely (state_as state.now) x y) }
+{
+    match state.shown {
+        Shown::No => Shown::No,
+        shown => both(shown, covers(state, x, y)),
+    }
 }

@@ -1,5 +1,5 @@
 // The tint of a pixel.
-ghost use Rattle.std.specs.Prelude.{ℕ, false, ◌≡◌, ◌^◌, ◌<◌, length, is_some};
+ghost use Rattle.std.specs.Prelude.{ℕ, false, ◌≡◌, ◌^◌, ◌<◌, ◌≤◌, drop, fold, length, is_some};
 ghost use Rattle.page_model.specs.Colour as colours;
 ghost use Rattle.page_model.specs.Enclosure.{LooseState};
 ghost use Rattle.page_model.specs.LayerAt.{State};
@@ -9,11 +9,12 @@ ghost use Rattle.flash_laws.specs.SureLaws.{IsOf};
 ghost use Rattle.tint_laws.specs.NestLaws.{LiesIn};
 ghost use Rattle.frame_state.specs.Scenes.{is_cubic};
 ghost use Rattle.frame_state.specs.States.{AreOwn, IsInSlots, state_as, states_as};
-ghost use Rattle.paint_blend.specs.Paint.{AreKnown, AreReady, AreStates, AreWide, IsOrdered, box_over, span_as};
+ghost use Rattle.paint_blend.specs.Paint.{AreKnown, AreReady, AreReadyBoxes, AreStates, AreWide, IsOrdered, OpaqueHides, box_over, own_tint, span_as};
 
 use crate::blending::{blended_span, combined_span, hull, span_of};
-use crate::covering::{both, covers};
+use crate::covering::is_at;
 use crate::span::Span;
+use crate::topmost::seen_from;
 use fix_span::Loose;
 use frame_state::{LayerState, Shown, states_at};
 use page_model::{Rgb, Scene, Setup, Tint};
@@ -122,7 +123,7 @@ fn with_box(state: &LayerState, x: u16, y: u16, backdrop: Tint) -> Tint
     requires { IsInSlots (state_as state.now) }
     ensures { result ≡ box_over (state_as state.now) x y backdrop }
 {
-    match both(state.shown, covers(state, x, y)) {
+    match is_at(state, x, y) {
         Shown::Yes => tint_over(state, span_of(state.alpha), backdrop),
         Shown::No => backdrop,
         Shown::Maybe => tint_hull(tint_over(state, span_of(state.alpha), backdrop), backdrop),
@@ -153,6 +154,55 @@ fn ground(scene: &Scene, states: &[LayerState]) -> Tint
     }
 }
 
+// The tint of a box that hides what lies under it: its own colour.
+fn hiding_tint(state: &LayerState) -> Tint
+    requires { IsInSlots (state_as state.now) }
+    ensures own { result ≡ own_tint (state_as state.now) }
+    ensures hides { OpaqueHides (state_as state.now) }
+{
+    tint_by(span_of(state.r), span_of(state.g), span_of(state.b))
+}
+
+// The boxes from a place on.
+fn boxes_from(boxes: &[u16], place: usize) -> &[u16]
+    requires { place ≤ length boxes.now }
+    ensures { result.now ≡ drop place boxes.now }
+{
+    &boxes[place..]
+}
+
+// The tint after boxes are painted over another tint, in their order.
+fn with_boxes(states: &[LayerState], boxes: &[u16], x: u16, y: u16, under: Tint) -> Tint
+    requires { AreReadyBoxes states.now boxes.now }
+    ensures { result ≡ fold (definition.tint_box (states_as states.now) x y) under boxes.now }
+{
+    let mut tint = under;
+    for number in boxes {
+        tint = with_box(&states[*number as usize], x, y, tint);
+    }
+    tint
+}
+
+// The tint of a pixel. What lies under the topmost box that hides it isn't painted, and boxes that surely miss the pixel are
+// looked at once.
+fn painted(scene: &Scene, states: &[LayerState], x: u16, y: u16) -> Tint
+    requires valid { IsValid scene.now }
+    requires states { length states.now ≡ length scene.now.layers }
+    requires ready { AreReady scene.now (states_as states.now) }
+    ensures { result ≡ definition.tint_of scene.now (states_as states.now) x y }
+{
+    let boxes = scene.order.as_slice();
+    let seen = seen_from(states, boxes, x, y);
+    let above = boxes_from(boxes, seen.above);
+    match seen.hiding {
+        Some(place) => {
+            let tint = hiding_tint(&states[boxes[place] as usize]);
+            with_boxes(states, above, x, y, tint)
+        }
+        None => with_boxes(states, above, x, y, ground(scene, states)),
+    }
+}
+
 /// The tint of a pixel, by the states of the layers: the least and the greatest colour that it may have,
 /// channel by channel. The canvas is white, the body is painted on every pixel where it has a colour, whatever
 /// its opacity, and the boxes follow in paint order, each blended in eight bits over what is there, by the
@@ -168,11 +218,7 @@ pub fn tint_of(scene: &Scene, states: &[LayerState], x: u16, y: u16) -> Tint
         → result ≡ definition.single (colours.painted scene.now known x y) }
     ensures ordered { IsOrdered result }
 {
-    let mut tint = ground(scene, states);
-    for number in scene.order.as_slice() {
-        tint = with_box(&states[*number as usize], x, y, tint);
-    }
-    tint
+    painted(scene, states, x, y)
 }
 
 /// The tint of a pixel in frame `k`, by the states of the own kind, whichever they are. It holds the pixel's

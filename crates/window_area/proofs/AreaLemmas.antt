@@ -1,6 +1,7 @@
 -- The flagged area as what a window of columns holds, each column with what a window of rows holds.
-use Rattle.std.proofs.Common.{ℕ, Bool, true, false, List, ◌≡◌, ◌+◌, ◌*◌, ◌<◌, ◌≤◌, ◌⊎◌, ◌∙◌, cond, arith, refl, sym, subst}
+use Rattle.std.proofs.Common.{ℕ, Bool, true, false, List, ◌≡◌, ◌+◌, ◌*◌, ◌<◌, ◌≤◌, ◌⊎◌, ◌∙◌, cond, arith, refl, sym, subst, inl, inr}
 use Rattle.std.specs.Prelude.{ℤ, pos, negsuc, ◌&&◌}
+use Rattle.std.proofs.lemmas.Bool.{cases_lt}
 use Rattle.page_model.specs.Flash.{sum_below}
 use Rattle.window_area.specs.declared.window.Window.{Window}
 use Rattle.window_area.specs.Edges.{AreEdges, band_of, bands, end_of}
@@ -13,7 +14,7 @@ use Rattle.window_area.proofs.SlideLemmas.{banded, window-slides}
 use Rattle.window_area.proofs.SumLemmas.{sum-none, sum-same}
 
 -- what a column of pixels counts
-abbrev column_weight : List ℕ → List ℕ → List Bool → ℤ → ℕ → ℕ
+abbrev pub column_weight : List ℕ → List ℕ → List Bool → ℤ → ℕ → ℕ
 column_weight xs ys flags y column = column_area (bands xs) ys flags 256 (band_of xs column) y
 
 one-column : (height : ℕ) (across : Bool) (down flag : ℕ → Bool)
@@ -52,7 +53,7 @@ strip_area-columns xs ys flags y columns are so place =
     ∙ sym (flagged_area-held xs ys flags (pos place) (pos y))
 
 -- over a stride of the rows
-area-slides : (xs ys : List ℕ) (flags : List Bool) (window : Window) (stride place : ℕ) → AreEdges ys → window.size ≡ 256
+pub area-slides : (xs ys : List ℕ) (flags : List Bool) (window : Window) (stride place : ℕ) → AreEdges ys → window.size ≡ 256
     → IsWindow ys window → IsStride ys window stride → (t : ℕ) → t ≤ stride
     → area_at xs ys flags place (window.place + t)
     + t * held 341 (end_of xs) (λ p. cell_value (bands xs) flags (band_of xs p) window.first) (pos place)
@@ -108,3 +109,12 @@ area-anywhere xs ys flags most no_more x y =
           let less = held-le 341 (end_of xs) (column_weight xs ys flags (negsuc b)) (column_weight xs ys flags (pos 0)) x
           (λ p before. held-negative 256 (end_of ys) (banded ys (cell_value (bands xs) flags (band_of xs p))) b) in
           omega (arith, less, no_more_column x 0, flagged_area-held xs ys flags x (negsuc b), flagged_area-held xs ys flags x (pos 0))
+
+-- what is held where something is, is held where nothing is
+pub area-held : (xs ys : List ℕ) (flags : List Bool) (x y most : ℕ) → (0 < most → area_at xs ys flags x y ≡ most)
+    → area_at xs ys flags x y ≤ most → area_at xs ys flags x y ≡ most
+area-held xs ys flags x y most has no_more =
+    elim (cases_lt 0 most) [
+      | inl some ↦ has some
+      | inr none ↦ omega arith
+    ]

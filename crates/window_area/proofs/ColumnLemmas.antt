@@ -14,11 +14,11 @@ use Rattle.window_area.proofs.SlideLemmas.{banded, window-slides}
 abbrev pub cell_value : ℕ → List Bool → ℕ → ℕ → ℕ
 cell_value across flags band row = cond (cell_flag across flags band row) 1 0
 
-cell-at_most : (b : Bool) → cond {A = ℕ} b 1 0 ≤ 1
+pub cell-at_most : (b : Bool) → cond {A = ℕ} b 1 0 ≤ 1
 cell-at_most true = omega arith
 cell-at_most false = omega arith
 
-only_if-product : (b : Bool) (amount : ℕ) → only_if b amount ≡ amount * cond b 1 0
+pub only_if-product : (b : Bool) (amount : ℕ) → only_if b amount ≡ amount * cond b 1 0
 only_if-product true amount = omega arith
 only_if-product false amount = omega arith
 

@@ -8,5 +8,8 @@ pub mod ScanLemmas
 pub mod FlaggedLemmas
 pub mod ColumnLemmas
 pub mod AreaLemmas
+pub mod WidthLemmas
+pub mod BoundLemmas
+pub mod GreatestLemmas
 pub mod RowScanLemmas
 pub mod MarkedLemmas

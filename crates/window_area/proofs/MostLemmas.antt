@@ -131,41 +131,74 @@ most-ends area last most so ended = record {
   first = λ place. (above-all area last most.area most.place so.above so.fits ended place).1;
 }
 
--- of the rows up to one, each with its places
-pub record IsBestUpTo (area : ℕ → ℕ → ℕ) (last : ℕ) (best : BestRow) : Type 0 where
-  pub has : area best.most.place best.row ≡ best.most.area
+-- of the rows up to one, each with its places; or a limit, where none has more
+pub record IsBestUpTo (area : ℕ → ℕ → ℕ) (limit last : ℕ) (best : BestRow) : Type 0 where
+  pub least : limit ≤ best.most.area
+  pub has : limit < best.most.area → area best.most.place best.row ≡ best.most.area
   pub above : (place : ℕ) → IsAbove (area place) last best.most.area best.row
   pub first : (place : ℕ) → best.most.area ≤ area place best.row → best.most.place ≤ place
   pub fits : best.row ≤ last
 
-pub best-begins : (area : ℕ → ℕ → ℕ) (best : BestRow) → best.row ≡ 0 → IsFirstMost (λ place. area place 0) best.most
-    → IsBestUpTo area 0 best
-best-begins area best zero is = record {
-  has = ap (area best.most.place) zero ∙ is.has;
-  above = λ place. record {
-    greatest = λ row fits. let same : row ≡ 0 = omega arith in omega (arith, ap (area place) same, is.greatest place);
-    earliest = λ row fits as_much. omega arith;
-  };
-  first = λ place as_much. is.first place (omega (arith, ap (area place) zero));
-  fits = omega arith;
-}
+pub best-begins : (area : ℕ → ℕ → ℕ) (limit : ℕ) (most : Most) → IsFirstMost (λ place. area place 0) most
+    → IsBestUpTo area limit 0
+    (cond (nat_lt limit most.area) (record { row = 0; most = most }) (record { row = 0; most = record { area = limit; place = 0 } }))
+best-begins area limit most is =
+    elim (cases_lt limit most.area) [
+      | inl more ↦ rw (lt-ltb limit most.area more) record {
+        least = omega arith;
+        has = λ above. is.has;
+        above = λ place. record {
+          greatest = λ row fits. let same : row ≡ 0 = omega arith in omega (arith, ap (area place) same, is.greatest place);
+          earliest = λ row fits as_much. omega arith;
+        };
+        first = is.first;
+        fits = omega arith;
+      }
+      | inr kept ↦ rw (le-ltb limit most.area kept) record {
+        least = omega arith;
+        has = λ above. absurd (omega (arith, above));
+        above = λ place. record {
+          greatest = λ row fits. let same : row ≡ 0 = omega arith in omega (arith, ap (area place) same, is.greatest place, kept);
+          earliest = λ row fits as_much. omega arith;
+        };
+        first = λ place as_much. omega arith;
+        fits = omega arith;
+      }
+    ]
 
-pub best-next : (area : ℕ → ℕ → ℕ) (last stride : ℕ) (best later : BestRow) → IsBestUpTo area last best
+pub best-next : (area : ℕ → ℕ → ℕ) (limit last stride : ℕ) (best later : BestRow) → IsBestUpTo area limit last best
     → later.row ≡ last + stride → IsFirstMost (λ place. area place (last + stride)) later.most
     → ((place t : ℕ) → t < stride → (area place (last + t) ≤ area place last) ⊎ (area place (last + t) < area place (last + stride)))
-    → IsBestUpTo area (last + stride) (cond (nat_lt best.most.area later.most.area) later best)
-best-next area last stride best later so there is between =
+    → IsBestUpTo area limit (last + stride) (cond (nat_lt best.most.area later.most.area) later best)
+best-next area limit last stride best later so there is between =
     elim (cases_lt best.most.area later.most.area) [
       | inl more ↦ rw (lt-ltb best.most.area later.most.area more) record {
-        has = ap (area later.most.place) there ∙ is.has;
+        least = omega (arith, so.least, more);
+        has = λ above. ap (area later.most.place) there ∙ is.has;
         above = λ place. rw there (above-more (area place) last stride best.most.area best.row later.most.area (so.above place) so.fits (is.greatest place) (between place) more);
         first = λ place as_much. is.first place (omega (arith, ap (area place) there));
         fits = omega arith;
       }
       | inr kept ↦ rw (le-ltb best.most.area later.most.area kept) record {
+        least = so.least;
         has = so.has;
         above = λ place. above-kept (area place) last stride best.most.area best.row later.most.area (so.above place) so.fits (is.greatest place) (between place) kept;
         first = so.first;
         fits = omega (arith, so.fits);
       }
     ]
+
+-- no place of the row has more, so the best one stays
+pub best-kept : (area : ℕ → ℕ → ℕ) (limit last stride : ℕ) (best : BestRow) → IsBestUpTo area limit last best
+    → ((place : ℕ) → area place (last + stride) ≤ best.most.area)
+    → ((place t : ℕ) → t < stride → (area place (last + t) ≤ area place last) ⊎ (area place (last + t) < area place (last + stride)))
+    → IsBestUpTo area limit (last + stride) best
+best-kept area limit last stride best so no_more between = record {
+  least = so.least;
+  has = so.has;
+  above = λ place.
+      above-kept (area place) last stride best.most.area best.row best.most.area (so.above place) so.fits (no_more place) (between place)
+      (omega arith);
+  first = so.first;
+  fits = omega (arith, so.fits);
+}

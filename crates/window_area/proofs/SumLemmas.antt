@@ -32,6 +32,12 @@ sum-steps zero t a b l g each = refl
 sum-steps (suc n) t a b l g each =
     omega (arith, sum-steps n t a b l g (λ i within. each i (omega arith)), each n (omega arith))
 
+-- terms that are others and a factor of third ones
+pub sum-scaled : (n t : ℕ) (a b g : ℕ → ℕ) → ((i : ℕ) → i < n → a i ≡ b i + t * g i) → sum_below n a ≡ sum_below n b + t * sum_below n g
+sum-scaled zero t a b g each = omega arith
+sum-scaled (suc n) t a b g each =
+    omega (arith, sum-scaled n t a b g (λ i within. each i (omega arith)), each n (omega arith))
+
 -- more terms
 pub sum-more : (n m : ℕ) (f : ℕ → ℕ) (value : ℕ) → ((i : ℕ) → n ≤ i → i < n + m → f i ≡ value)
     → sum_below (n + m) f ≡ sum_below n f + m * value

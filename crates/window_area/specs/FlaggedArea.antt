@@ -1,8 +1,9 @@
 -- How many flagged pixels the 341 by 256 rectangle of WCAG 2.2 holds at a position. Edges cut the viewport into cells, and a
 -- pixel is flagged where its cell is. The position may be any whole one: the rectangle may lie past the viewport's ends.
-use Rattle.std.specs.Prelude.{ℕ, ℤ, pos, Bool, false, ◌≡◌, ◌+◌, ◌*◌, ◌≤ℤ◌, ◌+ℤ◌, ◌&&◌, List, slice_index_or}
+use Rattle.std.specs.Prelude.{ℕ, ℤ, pos, Bool, false, ◌≡◌, ◌+◌, ◌*◌, ◌≤◌, ◌≤ℤ◌, ◌+ℤ◌, ◌&&◌, List, slice_index_or}
 use Rattle.std.specs.Int.Signed.{le_z, lt_z}
 use Rattle.page_model.specs.Flash.{area}
+use Rattle.window_area.specs.declared.best.Best.{Best}
 use Rattle.window_area.specs.Edges.{bands, band_of, end_of}
 
 -- a place is one of so many from a position on
@@ -26,6 +27,18 @@ unfoldable pub flagged_area : List ℕ → List ℕ → List Bool → ℤ → �
 flagged_area xs ys flags x y =
     area (end_of xs) (end_of ys) (λ column row. in_rectangle x y column row && is_flagged xs ys flags column row)
 
+-- how many flagged pixels the viewport has
+unfoldable pub total_area : List ℕ → List ℕ → List Bool → ℕ
+total_area xs ys flags = area (end_of xs) (end_of ys) (λ column row. is_flagged xs ys flags column row)
+
+-- the rectangle never holds more than all of them
+abbrev pub HoldsNoMoreThanAll : List ℕ → List ℕ → List Bool → Type 0
+HoldsNoMoreThanAll xs ys flags = (x y : ℤ) → flagged_area xs ys flags x y ≤ total_area xs ys flags
+
+-- no position of the rectangle has more than this
+abbrev pub HoldsAtMost : List ℕ → List ℕ → List Bool → ℕ → Type 0
+HoldsAtMost xs ys flags most = (x y : ℤ) → flagged_area xs ys flags x y ≤ most
+
 -- the position, from 0 on, is above or on the row of each such position that holds as much
 abbrev pub IsFirstRow : List ℕ → List ℕ → List Bool → ℕ → ℤ → Type 0
 IsFirstRow xs ys flags most row =
@@ -35,3 +48,12 @@ IsFirstRow xs ys flags most row =
 abbrev pub IsFirstColumn : List ℕ → List ℕ → List Bool → ℕ → ℤ → ℤ → Type 0
 IsFirstColumn xs ys flags most column row =
     (x : ℤ) → pos 0 ≤ℤ x → flagged_area xs ys flags x row ≡ most → column ≤ℤ x
+
+-- the area is the greatest, and the position the first with it
+pub record IsGreatest (xs ys : List ℕ) (flags : List Bool) (best : Best) : Type 0 where
+  pub most : HoldsAtMost xs ys flags best.area
+  pub has : flagged_area xs ys flags best.x best.y ≡ best.area
+  pub right : pos 0 ≤ℤ best.x
+  pub down : pos 0 ≤ℤ best.y
+  pub first_row : IsFirstRow xs ys flags best.area best.y
+  pub first_column : IsFirstColumn xs ys flags best.area best.x best.y

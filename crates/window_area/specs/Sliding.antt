@@ -1,7 +1,8 @@
 -- What a window of places holds while it slides over a side of the viewport.
-use Rattle.std.specs.Prelude.{ℕ, ℤ, pos, Bool, false, cond, ◌≡◌, ◌+◌, ◌<◌, ◌≤◌, List, length, slice_index, slice_index_or}
+use Rattle.std.specs.Prelude.{ℕ, ℤ, pos, Bool, false, cond, ◌≡◌, ◌+◌, ◌<◌, ◌≤◌, nat_lt, List, length, slice_index, slice_index_or}
 use Rattle.page_model.specs.Flash.{sum_below}
 use Rattle.window_area.specs.declared.window.Window.{Window}
+use Rattle.window_area.specs.declared.best.Lead.{Lead}
 use Rattle.window_area.specs.declared.strip.Most.{Most}
 use Rattle.window_area.specs.Edges.{bands, band_of, end_of}
 use Rattle.window_area.specs.FlaggedArea.{cell_flag, flagged_area, has_place}
@@ -78,13 +79,28 @@ pub record TakesWhereFlagged (flags : List Bool) (amount : ℕ) (old new : List 
   pub same_length : length new ≡ length old
   pub each : (i : ℕ) → i < length flags → slice_index new i + only_if (slice_index_or flags i false) amount ≡ slice_index old i
 
+-- how many columns of pixels are flagged in a row of cells
+unfoldable pub row_width : List ℕ → List Bool → ℕ
+row_width xs row_flags = sum_below (end_of xs) (λ column. cond (slice_index_or row_flags (band_of xs column) false) 1 0)
+
 -- how many flagged pixels the rectangle holds at a place from 0 on
 abbrev pub area_at : List ℕ → List ℕ → List Bool → ℕ → ℕ → ℕ
 area_at xs ys flags column row = flagged_area xs ys flags (pos column) (pos row)
 
--- no position from 0 on has more than this one, none in a row before has as much, and none in this row before it
-pub record IsBestRow (xs ys : List ℕ) (flags : List Bool) (row column most : ℕ) : Type 0 where
-  pub has : area_at xs ys flags column row ≡ most
+-- no position from 0 on has more than this one, none in a row before has as much, and none in this row before it; where none has more
+-- than a limit, that is told in its place
+pub record IsBestRow (xs ys : List ℕ) (flags : List Bool) (limit row column most : ℕ) : Type 0 where
+  pub least : limit ≤ most
+  pub has : limit < most → area_at xs ys flags column row ≡ most
   pub greatest : (x y : ℕ) → area_at xs ys flags x y ≤ most
   pub first_row : (x y : ℕ) → most ≤ area_at xs ys flags x y → row ≤ y
   pub first_column : (x : ℕ) → most ≤ area_at xs ys flags x row → column ≤ x
+
+-- the best position so far, and what a rectangle holds at most where the window of rows stands; a rectangle is looked for there
+-- only where it may hold more, and then the first most of the strip is the new bound
+pub data IsLookedAt (xs columns : List ℕ) (row : ℕ) (before after : Lead) : Type 0 where
+  is_behind : before.bound ≤ before.best.most.area → after ≡ before → IsLookedAt xs columns row before after
+  is_scanned : (most : Most) → IsFirstMost (strip_area xs columns 341) most → most.place ≤ 4096
+      → after.bound ≡ most.area
+      → after.best ≡ cond (nat_lt before.best.most.area most.area) (record { row = row; most = most }) before.best
+      → IsLookedAt xs columns row before after

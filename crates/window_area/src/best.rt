@@ -1,11 +1,12 @@
 // The greatest flagged area, and where it is.
-ghost use Rattle.std.specs.Prelude.{ℤ, pos, ◌≡◌, ◌*◌, ◌≤◌, ◌≤ℤ◌, length, nat_lt, if◌then◌else◌};
+ghost use Rattle.std.specs.Prelude.{ℤ, MatchOption, pos, ◌≡◌, ◌+◌, ◌*◌, ◌<◌, ◌≤◌, ◌≤ℤ◌, length, min, nat_lt, if◌then◌else◌};
 ghost use Rattle.window_area.specs.Edges.{AreEdges, bands};
-ghost use Rattle.window_area.specs.FlaggedArea.{flagged_area, IsFirstColumn, IsFirstRow};
-ghost use Rattle.window_area.specs.Sliding.{IsBestRow};
+ghost use Rattle.window_area.specs.FlaggedArea.{flagged_area, HoldsAtMost, IsFirstColumn, IsFirstRow, IsGreatest};
+ghost use Rattle.window_area.specs.Sliding.{AreWeights, IsBestRow, IsLookedAt};
 
-use crate::columns::{open_columns, slide_columns};
+use crate::columns::{open_columns, row_of, slide_columns};
 use crate::strip::{Most, most_in_strip};
+use crate::total::flagged_width;
 use crate::window::Window;
 
 /// The size of WCAG 2.2's rectangle, in pixels.
@@ -40,6 +41,19 @@ impl BestRow {
             self
         }
     }
+
+    /// As it is told.
+    fn told(self) -> Best
+        requires row { self.row ≤ 4096 }
+        requires column { self.most.place ≤ 4096 }
+        ensures { result ≡ record { area = self.most.area; x = pos self.most.place; y = pos self.row } }
+    {
+        Best {
+            area: self.most.area,
+            x: self.most.place as i32,
+            y: self.row as i32,
+        }
+    }
 }
 
 /// The greatest number of flagged pixels in a rectangle of 341 by 256 pixels at any whole position,
@@ -59,38 +73,103 @@ pub fn greatest(xs: &[u16], ys: &[u16], flags: &[bool], work: &mut [u32]) -> Bes
     ensures first_row { IsFirstRow xs.now ys.now flags.now result.area result.y }
     ensures first_column { IsFirstColumn xs.now ys.now flags.now result.area result.x result.y }
 {
-    let best = best_row(xs, ys, flags, work);
-    Best {
-        area: best.most.area,
-        x: best.most.place as i32,
-        y: best.row as i32,
-    }
+    best_row(0, xs, ys, flags, work).told()
 }
 
-/// The first row in which a rectangle holds most.
-fn best_row(xs: &[u16], ys: &[u16], flags: &[bool], work: &mut [u32]) -> BestRow
+/// The same where a rectangle holds more than a limit, and else none: rows in which no rectangle can are passed over, which
+/// takes less time than [`greatest`] where few pixels are flagged, or flagged ones are far apart.
+pub fn greatest_above(
+    limit: u32,
+    xs: &[u16],
+    ys: &[u16],
+    flags: &[bool],
+    work: &mut [u32],
+) -> Option<Best>
     requires columns { AreEdges xs.now }
     requires rows { AreEdges ys.now }
     requires cells { length flags.now ≡ bands ys.now * bands xs.now }
     requires work { length flags.now ≤ length work.old }
-    ensures best { IsBestRow xs.now ys.now flags.now result.row result.most.place result.most.area }
+    ensures { MatchOption result (HoldsAtMost xs.now ys.now flags.now limit)
+        (λ best. (limit < best.area) × IsGreatest xs.now ys.now flags.now best) }
+{
+    let best = best_row(limit, xs, ys, flags, work);
+    if best.most.area <= limit {
+        return None;
+    }
+    Some(best.told())
+}
+
+/// The best row so far, and what no rectangle in the row where the window stands holds more than.
+#[derive(Clone, Copy)]
+struct Lead {
+    best: BestRow,
+    bound: u32,
+}
+
+impl Lead {
+    /// After the window of rows has come to this row, where a rectangle is looked for only if one may hold more than
+    /// the best.
+    fn looked_at(self, row: u32, xs: &[u16], columns: &[u32]) -> Lead
+        requires edges { AreEdges xs.now }
+        requires weights { AreWeights xs.now columns.now }
+        ensures { IsLookedAt xs.now columns.now row self result }
+    {
+        if self.bound <= self.best.most.area {
+            return self;
+        }
+        let most = most_in_strip(xs, columns, WIDTH);
+        Lead {
+            best: self.best.or_later(BestRow { row, most }),
+            bound: most.area,
+        }
+    }
+}
+
+/// What no rectangle holds more than a stride further down, where none holds more than a bound and each row of pixels that
+/// comes in has so many flagged ones.
+fn bound_after(bound: u32, stride: u32, width: u32) -> u32
+    requires bound { bound ≤ 341 * 256 }
+    requires stride { stride ≤ 4096 }
+    ensures { result ≡ min (bound + stride * min width 341) (341 * 256) }
+{
+    (bound + stride * width.min(WIDTH)).min(WIDTH * HEIGHT)
+}
+
+/// What is the best before any row is looked at: no more than a limit.
+fn limit_only(limit: u32) -> BestRow
+    ensures { result ≡ record { row = 0; most = record { area = limit; place = 0 } } }
+{
+    let most = Most {
+        area: limit,
+        place: 0,
+    };
+    BestRow { row: 0, most }
+}
+
+/// The first row in which a rectangle holds most, where that is more than a limit.
+fn best_row(limit: u32, xs: &[u16], ys: &[u16], flags: &[bool], work: &mut [u32]) -> BestRow
+    requires columns { AreEdges xs.now }
+    requires rows { AreEdges ys.now }
+    requires cells { length flags.now ≡ bands ys.now * bands xs.now }
+    requires work { length flags.now ≤ length work.old }
+    ensures best { IsBestRow xs.now ys.now flags.now limit result.row result.most.place result.most.area }
     ensures row { result.row ≤ 4096 }
     ensures column { result.most.place ≤ 4096 }
 {
     let across = xs.len() - 1;
     let mut window = Window::open(ys, HEIGHT);
     open_columns(across, ys, flags, HEIGHT, work);
-    let mut best = BestRow {
-        row: 0,
-        most: most_in_strip(xs, work, WIDTH),
+    let most = most_in_strip(xs, work, WIDTH);
+    let mut lead = Lead {
+        best: limit_only(limit).or_later(BestRow { row: 0, most }),
+        bound: most.area,
     };
     while let Some(stride) = window.stride(ys) {
+        let width = flagged_width(xs, row_of(flags, across, window.next));
+        lead.bound = bound_after(lead.bound, stride, width);
         slide_columns(across, ys, flags, &window, stride, work);
         window = window.slid(ys, stride);
-        best = best.or_later(BestRow {
-            row: window.place,
-            most: most_in_strip(xs, work, WIDTH),
-        });
+        lead = lead.looked_at(window.place, xs, work);
     }
-    best
+    lead.best
 }

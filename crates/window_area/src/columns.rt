@@ -7,11 +7,18 @@ use crate::strip::overlap;
 use crate::window::Window;
 
 /// The flags of a row of cells.
-fn row_of(flags: &[bool], across: usize, row: usize) -> &[bool]
+pub(crate) fn row_of(flags: &[bool], across: usize, row: usize) -> &[bool]
     requires { row * across + across ≤ length flags.now }
     ensures { IsRow across flags.now row result.now }
 {
     &flags[row * across..row * across + across]
+}
+
+/// An amount, where it is flagged.
+pub(crate) fn only_if(flagged: bool, amount: u32) -> u32
+    ensures { result ≡ cond flagged amount 0 }
+{
+    if flagged { amount } else { 0 }
 }
 
 /// Adds an amount to each flagged column.
@@ -22,9 +29,7 @@ fn add_where_flagged(row: &[bool], amount: u32, columns: &mut [u32])
     ensures { AddsWhereFlagged row.now amount columns.old columns.new }
 {
     for band in 0..row.len() {
-        if row[band] {
-            columns[band] += amount;
-        }
+        columns[band] += only_if(row[band], amount);
     }
 }
 
@@ -35,9 +40,7 @@ fn take_where_flagged(row: &[bool], amount: u32, columns: &mut [u32])
     ensures { TakesWhereFlagged row.now amount columns.old columns.new }
 {
     for band in 0..row.len() {
-        if row[band] {
-            columns[band] -= amount;
-        }
+        columns[band] -= only_if(row[band], amount);
     }
 }
 
