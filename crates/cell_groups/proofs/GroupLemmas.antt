@@ -1,22 +1,21 @@
 -- One cell more.
-use Rattle.std.proofs.Common.{ℕ, pos, ◌≡◌, ◌∙◌, ◌⊎◌, ◌+◌, ◌-◌, ◌<◌, ◌≤◌, ◌++◌, ◌∷◌, [], List, length, get_or, arith, inl, inr, refl, subst, sym, length-append}
-use Rattle.std.specs.Prelude.{All, Some, slice_get, slice_index}
+use Rattle.std.proofs.Common.{ℕ, pos, ◌≡◌, ◌∙◌, ◌+◌, ◌-◌, ◌<◌, ◌≤◌, ◌++◌, ◌∷◌, [], List, length, get_or, arith, inl, inr, refl, subst, sym, length-append}
+use Rattle.std.specs.Prelude.{Some, slice_get, slice_index}
 use Rattle.std.proofs.lemmas.Bool.{cases_lt}
 use Rattle.std.proofs.Math.ListN.{get_or-append}
 use Rattle.std.proofs.Math.Seq.{get_or-append_seam}
 use Rattle.std.proofs.lemmas.List.Elements.{All-get_or}
 use Rattle.std.proofs.lemmas.Option.{slice_get-get_or, slice_get_within}
-use Rattle.page_model.specs.declared.scene.Layer.{Layer}
 use Rattle.page_model.specs.declared.scene.Scene.{Scene}
 use Rattle.page_model.specs.declared.setup.Setup.{Setup}
-use Rattle.page_model.specs.Enclosure.{IsLooseStateAt, LooseState, own}
+use Rattle.page_model.specs.Enclosure.{LooseState}
 use Rattle.page_model.specs.TintOf.{covers_surely}
 use Rattle.region_split.specs.Cutting.{Edges, cell_of}
 use Rattle.cell_groups.specs.declared.homes.Home.{Home}
 use Rattle.cell_groups.specs.declared.homes.Home.TheVariants.{Fixed, Within}
-use Rattle.cell_groups.specs.Adding.{AddsCell, AreToldAlike, Begins, IsNeighbour, Joins}
-use Rattle.cell_groups.specs.Groups.{AreCoveredAlike, AreGroupsBefore, BoxCoversAlike, Grouping, LookAlike, first_of, group_of}
-use Rattle.cell_groups.specs.Homes.{AreHomes, IsAtHome, IsHomeOf, TellAlike, TellsAlike}
+use Rattle.cell_groups.specs.Adding.{AddsCell, IsNeighbour}
+use Rattle.cell_groups.specs.Groups.{AreCoveredAlike, AreGroupsBefore, Grouping, LookAlike, first_of, group_of}
+use Rattle.cell_groups.specs.Homes.{AreHomes, IsAtHome, TellAlike, TellsAlike}
 
 -- what a home tells of a box that is at home
 home-alike : (state : LooseState) (home : Home) (column row other_column other_row : ℕ) → IsAtHome state home

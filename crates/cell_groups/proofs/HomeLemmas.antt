@@ -1,16 +1,11 @@
 -- Homes of boxes, and of one box more.
-use Rattle.std.proofs.Common.{ℕ, ◌≡◌, ◌∙◌, ◌+◌, ◌-◌, ◌<◌, ◌≤◌, List, [], ◌∷◌, ◌++◌, length, arith, inl, inr, refl, subst, sym, length-append}
-use Rattle.std.specs.Prelude.{Some, slice_get}
-use Rattle.std.proofs.lemmas.Bool.{cases_lt}
-use Rattle.page_model.specs.declared.scene.Layer.{Layer}
-use Rattle.page_model.specs.declared.scene.Scene.{Scene}
-use Rattle.page_model.specs.declared.setup.Setup.{Setup}
+use Rattle.std.proofs.Common.{ℕ, ◌≡◌, ◌∙◌, refl}
 use Rattle.page_model.specs.Enclosure.{LooseState}
 use Rattle.page_model.specs.TintOf.{covers_surely}
 use Rattle.region_split.specs.Moving.{AreInOnePlace}
 use Rattle.cell_groups.specs.declared.homes.Home.{Home}
 use Rattle.cell_groups.specs.declared.homes.Home.TheVariants.{Fixed, Within}
-use Rattle.cell_groups.specs.Homes.{AreHomesBefore, IsAtHome, IsHomeOf}
+use Rattle.cell_groups.specs.Homes.{IsAtHome}
 
 -- two states in one place cover alike
 covers-same : (state again : LooseState) (column row : ℕ) → AreInOnePlace state again

@@ -1,5 +1,5 @@
 -- Where each box is in the frames that are looked at, and what that tells of two pixels. This is the project's own.
-use Rattle.std.specs.Prelude.{ℕ, ℤ, pos, Bool, true, ◌≡◌, ◌+◌, ◌<◌, ◌||◌, int_le, int_lt, if◌then◌else◌, All, List, length, slice_get, Some}
+use Rattle.std.specs.Prelude.{ℕ, pos, Bool, true, ◌≡◌, ◌+◌, ◌<◌, ◌||◌, int_le, int_lt, if◌then◌else◌, All, List, length, slice_get, Some}
 use Rattle.page_model.specs.declared.scene.Layer.{Layer}
 use Rattle.page_model.specs.declared.scene.Scene.{Scene}
 use Rattle.page_model.specs.declared.setup.Setup.{Setup}

@@ -1,7 +1,7 @@
 -- One home more.
-use Rattle.std.proofs.Common.{◌≡◌, arith, refl}
+use Rattle.std.proofs.Common.{arith, refl}
 use Rattle.std.proofs.lemmas.List.{take_all}
-use Rattle.std.proofs.lemmas.List.Elements.{All-more, All-same}
+use Rattle.std.proofs.lemmas.List.Elements.{All-more}
 use Rattle.cell_groups.specs.declared.homes.Home.{Home}
 use Rattle.cell_groups.specs.Homes.{TellsAlike}
 use Rattle.cell_groups.proofs.alike.are_alike.Goals as goal

@@ -1,5 +1,4 @@
 -- A box that may not move is where it is in the first frame, and one that repeats does nothing new behind that.
-use Rattle.std.proofs.Common.{◌≡◌, refl}
 use Rattle.frame_state.specs.States.{state_as}
 use Rattle.cell_groups.proofs.HomeLemmas.{home-still}
 use Rattle.cell_groups.proofs.homes.home_of.Goals as goal
