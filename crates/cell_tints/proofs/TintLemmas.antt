@@ -1,5 +1,6 @@
 -- Tints are told frame by frame, and of each frame cell by cell.
 use Rattle.std.proofs.Common.{◌≡◌, ◌∙◌, ℕ, ◌+◌, ◌*◌, ◌/◌, ◌%◌, ◌<◌, List, [], ◌∷◌, ◌++◌, length, get_or, set, slice_get, Some, ap, arith, inl, inr, refl, subst, sym, length-append, length-set, get_or-set_other, get_or-set_same}
+use Rattle.std.specs.Prelude.{slice_index}
 use Rattle.std.proofs.lemmas.Bool.{cases_eq, cases_lt}
 use Rattle.std.proofs.lemmas.Nat.{div-mul-add, mod-mul-add}
 use Rattle.std.proofs.lemmas.Option.{get_or_from_slice_get, slice_get-get_or, slice_get_within}
@@ -34,24 +35,31 @@ at-cell scene setup edges frame i x y tint column row own =
     subst (λ n. IsOwnTint scene setup frame (cell_of edges.xs edges.ys i).x n tint) (sym row)
     (subst (λ n. IsOwnTint scene setup frame n y tint) (sym column) own)
 
--- one tint more is written, that of the next cell in a frame
-pub tints-written : (scene : Scene) (setup : Setup) (edges : Edges) (frame i x y : ℕ) (old : List Tint) (tint : Tint)
-    → AreTintsIn scene setup edges frame i old → i < length old → (cell_of edges.xs edges.ys i).x ≡ x → (cell_of edges.xs edges.ys i).y ≡ y
-    → IsOwnTint scene setup frame x y tint → AreTintsIn scene setup edges frame (i + 1) (set old i tint)
-tints-written scene setup edges frame i x y old tint are inside column row own k other before e =
+-- one tint more is written, that of the next of some cells in a frame
+pub tints-written : (scene : Scene) (setup : Setup) (edges : Edges) (frame : ℕ) (chosen : List ℕ) (i x y : ℕ) (old : List Tint) (tint : Tint)
+    → AreTintsIn scene setup edges frame chosen i old → i < length old → (cell_of edges.xs edges.ys (slice_index chosen i)).x ≡ x
+    → (cell_of edges.xs edges.ys (slice_index chosen i)).y ≡ y
+    → IsOwnTint scene setup frame x y tint → AreTintsIn scene setup edges frame chosen (i + 1) (set old i tint)
+tints-written scene setup edges frame chosen i x y old tint are inside column row own k other before e =
     let there : get_or (set old i tint) k other ≡ other = get_or_from_slice_get (set old i tint) k other other e in
     elim (cases_eq k i) [
       | inl same ↦
           let is : tint ≡ other =
           sym (get_or-set_same old i tint other inside) ∙ ap (λ n. get_or (set old i tint) n other) (sym same) ∙ there in
-          subst (λ (t : Tint). IsOwnTint scene setup frame (cell_of edges.xs edges.ys k).x (cell_of edges.xs edges.ys k).y t) is
-          (subst (λ n. IsOwnTint scene setup frame (cell_of edges.xs edges.ys n).x (cell_of edges.xs edges.ys n).y tint) (sym same)
-          (at-cell scene setup edges frame i x y tint column row own))
+          subst (λ (t : Tint). IsOwnTint scene setup frame (first_x k) (first_y k) t) is
+          (subst (λ n. IsOwnTint scene setup frame (first_x n) (first_y n) tint) (sym same)
+          (at-cell scene setup edges frame (slice_index chosen i) x y tint column row own))
       | inr apart ↦
           let known : k < length old = let h = slice_get_within (set old i tint) k other e in omega (arith, h, length-set old i tint) in
           are k other (omega (arith, before, apart))
           (slice_get-get_or old k other known ∙ ap Some (sym (get_or-set_other old i k tint other apart) ∙ there))
     ]
+  where
+    first_x : ℕ → ℕ
+    first_x n = (cell_of edges.xs edges.ys (slice_index chosen n)).x
+
+    first_y : ℕ → ℕ
+    first_y n = (cell_of edges.xs edges.ys (slice_index chosen n)).y
 
 -- one tint more is that of the next cell in a frame
 pub tints-more : (scene : Scene) (setup : Setup) (edges : Edges) (start k i x y : ℕ) (old new : List Tint) (tint : Tint)

@@ -1,6 +1,6 @@
 -- The tints of cells, as those of each cell's first pixel, frame by frame. A tint is by the own kind of enclosure, whatever the states
 -- are of which it comes. This is the project's own.
-use Rattle.std.specs.Prelude.{ℕ, ◌≡◌, ◌+◌, ◌*◌, ◌<◌, List, length, slice_get, Some}
+use Rattle.std.specs.Prelude.{ℕ, ◌≡◌, ◌+◌, ◌*◌, ◌<◌, List, length, slice_get, slice_index, Some}
 use Rattle.page_model.specs.declared.colour.Tint.{Tint}
 use Rattle.page_model.specs.declared.scene.Scene.{Scene}
 use Rattle.page_model.specs.declared.setup.Setup.{Setup}
@@ -32,8 +32,9 @@ pub record AreTintsBefore (scene : Scene) (setup : Setup) (edges : Edges) (start
 abbrev pub AreTintsOfCells : Scene → Setup → Edges → ℕ → ℕ → List Tint → Type 0
 AreTintsOfCells scene setup edges start frames tints = AreTintsBefore scene setup edges start (cells_of edges * frames) tints
 
--- tints are those of the first cells in a frame, so many, cell by cell
-abbrev pub AreTintsIn : Scene → Setup → Edges → ℕ → ℕ → List Tint → Type 0
-AreTintsIn scene setup edges frame count tints =
+-- tints are those of the first of some cells in a frame, so many
+abbrev pub AreTintsIn : Scene → Setup → Edges → ℕ → List ℕ → ℕ → List Tint → Type 0
+AreTintsIn scene setup edges frame chosen count tints =
     (i : ℕ) (tint : Tint) → i < count → slice_get tints i ≡ Some tint
-    → IsOwnTint scene setup frame (cell_of edges.xs edges.ys i).x (cell_of edges.xs edges.ys i).y tint
+    → IsOwnTint scene setup frame (cell_of edges.xs edges.ys (slice_index chosen i)).x
+    (cell_of edges.xs edges.ys (slice_index chosen i)).y tint

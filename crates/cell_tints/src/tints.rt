@@ -1,5 +1,5 @@
 // The tints of all cells, frame by frame.
-ghost use Rattle.std.specs.Prelude.{◌≡◌, ◌+◌, ◌^◌, ◌<◌, ◌≤◌, IfOk, OnOk, length, take};
+ghost use Rattle.std.specs.Prelude.{◌≡◌, ◌+◌, ◌^◌, ◌<◌, ◌≤◌, IfOk, OnOk, length, slice_index, take};
 ghost use Rattle.page_model.specs.ValidScene.{IsValid};
 ghost use Rattle.frame_state.specs.States.{AreInSlots, AreOwn, states_as};
 ghost use Rattle.cell_tints.specs.Tints.{AreTintsIn, AreTintsOfCells, cells_of};
@@ -50,17 +50,25 @@ fn add_frame(
     Ok(())
 }
 
-/// Writes the tints of all cells in a frame, cell by cell. It takes no memory.
-pub fn tints_in_frame(scene: &Scene, setup: &Setup, cuts: &Cuts, frame: u32, tints: &mut [Tint])
+/// Writes the tints of some cells in a frame, which are told by their numbers, in their order. It takes no memory.
+pub fn tints_in_frame(
+    scene: &Scene,
+    setup: &Setup,
+    cuts: &Cuts,
+    chosen: &[u32],
+    frame: u32,
+    tints: &mut [Tint],
+)
     requires valid { IsValid scene.now }
-    requires all { length tints.old ≡ cells_of cuts.now }
-    ensures { AreTintsIn scene.now setup.now cuts.now frame (cells_of cuts.now) tints.new }
+    requires known { (i : _) → i < length chosen.now → slice_index chosen.now i < cells_of cuts.now }
+    requires all { length tints.old ≡ length chosen.now }
+    ensures { AreTintsIn scene.now setup.now cuts.now frame chosen.now (length chosen.now) tints.new }
 {
     let all = states_in(scene, setup, frame);
     let states = &all[..scene.layers.len()];
-    for i in 0..cuts.cells() {
-        let cell = cuts.cell(i);
-        tints[i as usize] = tint_of(scene, states, cell.x, cell.y);
+    for i in 0..chosen.len() {
+        let cell = cuts.cell(chosen[i]);
+        tints[i] = tint_of(scene, states, cell.x, cell.y);
     }
 }
 

@@ -12,7 +12,7 @@ tint_of-requires-clause-ready c number layer is coloured =
 
 pub loop-i-preserved : goal.loop-i-preserved
 loop-i-preserved c =
-    tints-written c.args.scene.now c.args.setup.now c.args.cuts.now c.args.frame c.loop-i.i c.cell-cell.result.x c.cell-cell.result.y
+    tints-written c.args.scene.now c.args.setup.now c.args.cuts.now c.args.frame c.args.chosen.now c.loop-i.i c.cell-cell.result.x c.cell-cell.result.y
     c.loop-i.tints c.tint_of.result c.loop-i.invariant (search rules)
     (sym (ap (λ (r : Rect). r.x) c.cell-cell.ensures)) (sym (ap (λ (r : Rect). r.y) c.cell-cell.ensures))
     (own-tint c.args.scene.now c.args.setup.now c.args.frame c.cell-cell.result.x c.cell-cell.result.y c.tint_of.result
