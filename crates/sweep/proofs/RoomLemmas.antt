@@ -30,10 +30,11 @@ pub words-few : (rate cells windows : ℕ) → cells * (windows + rate + 1) ≤ 
 words-few rate cells windows few = omega (arith, few)
 
 -- rows that were taken
-pub rows-taken : (rate cells : ℕ) (old new : Rows) → HasRows rate cells old → AreTaken cells old new → AreRoomy rate cells new
-rows-taken rate cells old new has taken cell known = (
-  taken.out cell known,
-  subst (λ (rows : List (List ℕ)). 9 * (rate + 1) ≤ length (get_or rows cell [])) (sym taken.same) (has.wide cell known),
+pub rows-taken : (rate cells groups : ℕ) (old new : Rows) → groups ≤ cells → HasRows rate cells old → AreTaken groups old new
+    → AreRoomy rate groups new
+rows-taken rate cells groups old new few has taken group known = (
+  taken.out group known,
+  subst (λ (rows : List (List ℕ)). 9 * (rate + 1) ≤ length (get_or rows group [])) (sym taken.same) (has.wide group (omega (arith, known, few))),
 )
 
 -- and begun
@@ -45,33 +46,54 @@ rows-begun rate cells old new roomy begun only cell known =
       (let long = (begun cell known).long in omega (arith, long, before.1)),
     )
 
--- what happened to a pool
-pub record IsUsed (rate cells : ℕ) (old taken begun pushed new : Rows) : Type 0 where
+-- what happened to a pool with a row for each of so many cells, of which so many were used
+pub record IsUsed (rate cells groups : ℕ) (old taken begun pushed new : Rows) : Type 0 where
+  pub few : groups ≤ cells
   pub has : HasRows rate cells old
-  pub is_taken : AreTaken cells old taken
-  pub is_begun : OnlyRows cells taken begun
-  pub is_pushed : OnlyRows cells begun pushed
-  pub roomy : AreRoomy rate cells pushed
-  pub is_given : AreGiven cells pushed new
+  pub is_taken : AreTaken groups old taken
+  pub is_begun : OnlyRows groups taken begun
+  pub is_pushed : OnlyRows groups begun pushed
+  pub roomy : AreRoomy rate groups pushed
+  pub is_given : AreGiven groups pushed new
+
+-- a row that wasn't used is as it was
+unused : (rate cells groups : ℕ) (old taken begun pushed new : Rows) (cell : ℕ) → IsUsed rate cells groups old taken begun pushed new
+    → groups ≤ cell → row_of new cell ≡ row_of old cell
+unused rate cells groups old taken begun pushed new cell used past =
+    ap (λ (rows : List (List ℕ)). get_or rows cell []) used.is_given.same ∙ used.is_pushed.others cell past ∙ used.is_begun.others cell past
+    ∙ ap (λ (rows : List (List ℕ)). get_or rows cell []) used.is_taken.same
+
+-- the same numbers are free again
+free-at : (rate cells groups : ℕ) (old taken begun pushed new : Rows) (cell : ℕ) → IsUsed rate cells groups old taken begun pushed new
+    → get_or new.free cell false ≡ get_or old.free cell false
+free-at rate cells groups old taken begun pushed new cell used =
+    let between : pushed.free ≡ taken.free = used.is_pushed.free ∙ used.is_begun.free in
+    elim (cases_lt cell groups) [
+      | inl known ↦ used.is_given.free cell known ∙ sym (used.has.free cell (omega (arith, known, used.few)))
+      | inr past ↦ used.is_given.others cell past ∙ ap (λ (free : List Bool). get_or free cell false) between ∙ used.is_taken.others cell past
+    ]
 
 -- it has its rows again
-pub rows-back : (rate cells : ℕ) (old taken begun pushed new : Rows) → IsUsed rate cells old taken begun pushed new → HasRows rate cells new
-rows-back rate cells old taken begun pushed new used = record {
+pub rows-back : (rate cells groups : ℕ) (old taken begun pushed new : Rows) → IsUsed rate cells groups old taken begun pushed new
+    → HasRows rate cells new
+rows-back rate cells groups old taken begun pushed new used = record {
   all = ap length used.is_given.same ∙ used.is_pushed.many ∙ used.is_begun.many ∙ ap length used.is_taken.same ∙ used.has.all;
-  wide = λ cell known.
-      subst (λ (rows : List (List ℕ)). 9 * (rate + 1) ≤ length (get_or rows cell [])) (sym used.is_given.same) (used.roomy cell known).1;
-  free = used.is_given.free;
+  wide = λ cell known. elim (cases_lt cell groups) [
+    | inl is_used ↦
+        subst (λ (rows : List (List ℕ)). 9 * (rate + 1) ≤ length (get_or rows cell [])) (sym used.is_given.same) (used.roomy cell is_used).1
+    | inr past ↦
+        subst (λ (row : List ℕ). 9 * (rate + 1) ≤ length row) (sym (unused rate cells groups old taken begun pushed new cell used past))
+        (used.has.wide cell known)
+  ];
+  free = λ cell known. free-at rate cells groups old taken begun pushed new cell used ∙ used.has.free cell known;
 }
 
 -- and the same numbers are free
-pub free-back : (rate cells : ℕ) (old taken begun pushed new : Rows) → IsUsed rate cells old taken begun pushed new → new.free ≡ old.free
-free-back rate cells old taken begun pushed new used =
+pub free-back : (rate cells groups : ℕ) (old taken begun pushed new : Rows) → IsUsed rate cells groups old taken begun pushed new
+    → new.free ≡ old.free
+free-back rate cells groups old taken begun pushed new used =
     let between : pushed.free ≡ taken.free = used.is_pushed.free ∙ used.is_begun.free in
     let long : length new.free ≡ length old.free = used.is_given.many ∙ ap length between ∙ used.is_taken.many in
-    let same : (cell : ℕ) → get_or new.free cell false ≡ get_or old.free cell false =
-    λ cell. elim (cases_lt cell cells) [
-      | inl known ↦ used.is_given.free cell known ∙ sym (used.has.free cell known)
-      | inr past ↦ used.is_given.others cell past ∙ ap (λ (free : List Bool). get_or free cell false) between ∙ used.is_taken.others cell past
-    ] in
     same_lists new.free old.free long (λ cell d below.
-    get_or_default new.free cell d false below ∙ same cell ∙ get_or_default old.free cell false d (omega (arith, below, long)))
+    get_or_default new.free cell d false below ∙ free-at rate cells groups old taken begun pushed new cell used
+    ∙ get_or_default old.free cell false d (omega (arith, below, long)))

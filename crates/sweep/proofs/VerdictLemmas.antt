@@ -58,10 +58,9 @@ few-at : (sort : Sort) (scene : Scene) (setup : Setup) (edges : Edges) (start : 
     → IsFew sort scene setup edges start → IsLooseRunIn own scene setup start run
     → HasManyFlagged (FlaggedBy sort scene setup run start) setup x y → ⊥
 few-at sort scene setup edges start x y run sides few is =
-    let of = few.few.best in
+    let of = few.few in
     few-flagged (FlaggedBy sort scene setup run start) setup edges of.marks x y sides
-    (tells sort scene setup edges start few.flags of.marks run sides few.are of.are is)
-    (omega (arith, few.few.few, of.best.most_of x y))
+    (tells sort scene setup edges start few.flags of.marks run sides few.are of.are is) (of.few x y)
 
 none-bad : (sort : Sort) (scene : Scene) (setup : Setup) (edges : Edges) (end : ℕ) → AreSides setup edges
     → AreFewBefore sort scene setup edges end → NoneIn (BadBy sort scene setup) end

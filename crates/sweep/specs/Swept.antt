@@ -1,11 +1,13 @@
 -- What one pass over the frames of a scene has seen of its cells, and found in its windows.
-use Rattle.std.specs.Prelude.{ℕ, ℤ, false, ◌≡◌, ◌+◌, ◌-◌, ◌*◌, ◌<◌, ◌≤◌, MatchOption, Option, List, [], length, slice_index_or}
+use Rattle.std.specs.Prelude.{ℕ, ℤ, Bool, false, true, ◌≡◌, ◌+◌, ◌-◌, ◌*◌, ◌<◌, ◌≤◌, MatchOption, Option, List, [], length, slice_index_or}
 use Rattle.page_model.specs.declared.colour.Tint.{Tint}
 use Rattle.page_model.specs.declared.scene.Scene.{Scene}
 use Rattle.page_model.specs.declared.setup.Setup.{Setup}
 use Rattle.page_model.specs.declared.witness.BadWindow.{BadWindow}
+use Rattle.page_model.specs.Horizon.{frames_for}
 use Rattle.page_model.specs.Time.{window_of}
 use Rattle.cell_flags.specs.Flags.{AreAlikeCells, AreSeenAs, IsFlagOf}
+use Rattle.cell_groups.specs.Groups.{AreGroups, Grouping, first_of}
 use Rattle.cell_rows.specs.CellRows.{AreAllFree, AreRoomy}
 use Rattle.cell_tints.specs.Tints.{cells_of}
 use Rattle.flash_count.specs.declared.tracking.Flag.{Flag}
@@ -62,13 +64,17 @@ pub record HasSeen (scene : Scene) (setup : Setup) (rect : Rect) (frames : ℕ) 
   pub are : AreSeenAs scene setup rect tints
   pub stands : StandsFor (window_of setup) tints row
 
--- In the first frames, so many, all cells were seen, each by its row of a pool, and of the windows that ended in
--- them the first with many flags of each sort was found. The row of a cell has the cell's number.
-pub record IsSwept (scene : Scene) (setup : Setup) (edges : Edges) (frames : ℕ) (pool : Rows) (found : Found)
-    : Type 0 where
-  pub roomy : AreRoomy (window_of setup) (cells_of edges) pool
-  pub seen : (cell : ℕ) → cell < cells_of edges
-      → HasSeen scene setup (cell_of edges.xs edges.ys cell) frames (row_of pool cell)
+-- how many groups there are
+abbrev pub groups_in : Grouping → ℕ
+groups_in groups = length groups.firsts
+
+-- In the first frames, so many, all groups were seen, each by its first cell and a row of a pool, and of the windows
+-- that ended in them the first with many flags of each sort was found. The row of a group has the group's number.
+pub record IsSwept (scene : Scene) (setup : Setup) (edges : Edges) (groups : Grouping) (frames : ℕ) (pool : Rows)
+    (found : Found) : Type 0 where
+  pub roomy : AreRoomy (window_of setup) (groups_in groups) pool
+  pub seen : (group : ℕ) → group < groups_in groups
+      → HasSeen scene setup (cell_of edges.xs edges.ys (first_of groups group)) frames (row_of pool group)
   pub sure : IsFoundBefore Sure scene setup edges (frames - window_of setup) found.sure
   pub possible : IsFoundBefore Possible scene setup edges (frames - window_of setup) found.possible
 
@@ -99,10 +105,11 @@ IsTold scene setup edges windows (Undecided (reason.Work cells frames)) = ⊥
 IsTold scene setup edges windows (Undecided (reason.Enclosure start x y)) =
     IsToldUndecided scene setup edges windows start x y
 
--- each layer covers two pixels of one cell alike in some frames, and a frame is one of them
-pub record AreAlikeAt (scene : Scene) (setup : Setup) (edges : Edges) (frame : ℕ) : Type 0 where
+-- each layer covers two pixels of one cell alike in some frames, and the cells of one group, and a frame is one of them
+pub record AreAlikeAt (scene : Scene) (setup : Setup) (edges : Edges) (groups : Grouping) (frame : ℕ) : Type 0 where
   pub frames : ℕ
   pub cells : AreAlikeCells scene setup frames edges
+  pub groups_are : AreGroups scene setup frames edges groups
   pub before : frame < frames
 
 -- the first rows, so many, stand for no tints
@@ -115,14 +122,25 @@ pub record HasRows (rate cells : ℕ) (pool : Rows) : Type 0 where
   pub wide : (cell : ℕ) → cell < cells → 9 * (rate + 1) ≤ length (row_of pool cell)
   pub free : AreAllFree cells pool
 
--- each list has a place for each of so many cells
-pub record HasPlaces (cells : ℕ) (room : Room) : Type 0 where
-  pub tints : length room.tints.items ≡ cells
-  pub flags : length room.flags.items ≡ cells
+-- each list has a place for each of so many cells, or of so many groups
+pub record HasPlaces (cells groups : ℕ) (room : Room) : Type 0 where
+  pub tints : length room.tints.items ≡ groups
+  pub flags : length room.flags.items ≡ groups
   pub marks : length room.marks.items ≡ cells
   pub work : length room.work.items ≡ cells
 
--- there is room for so many cells
-pub record IsRoom (rate cells : ℕ) (room : Room) : Type 0 where
+-- there is room for so many cells, in so many groups
+pub record IsRoom (rate cells groups : ℕ) (room : Room) : Type 0 where
   pub rows : HasRows rate cells room.pool
-  pub places : HasPlaces cells room
+  pub places : HasPlaces cells groups room
+
+-- the cells are in groups, as they are where no region was judged by itself
+abbrev pub AreGroupedBy : Bool → Scene → Setup → ℕ → Edges → Grouping → Type 0
+AreGroupedBy false scene setup needed edges groups = AreGroups scene setup (frames_for setup needed) edges groups
+AreGroupedBy true scene setup needed edges groups = Unit {0}
+
+-- so it is with a room that is swept: there is a row for each cell
+pub record IsSweeping (apart : Bool) (scene : Scene) (setup : Setup) (needed : ℕ) (edges : Edges) (groups : Grouping)
+    (room : Room) : Type 0 where
+  pub room_is : IsRoom (window_of setup) (length room.pool.rows) (groups_in groups) room
+  pub grouped : AreGroupedBy apart scene setup needed edges groups

@@ -1,6 +1,7 @@
 // One pass over the frames of a scene.
 ghost use Rattle.std.specs.Prelude.{◌≡◌, ◌+◌, ◌^◌, ◌<◌, ◌≤◌, ℕ, [], length, slice_index_or};
 ghost use Rattle.cell_flags.specs.Flags.{AreAlikeCells};
+ghost use Rattle.cell_groups.specs.Groups.{AreGroups};
 ghost use Rattle.cell_rows.specs.CellRows.{AreRoomy, OnlyRows};
 ghost use Rattle.cell_tints.specs.Tints.{cells_of};
 ghost use Rattle.flash_count.specs.Rows.{StandsFor};
@@ -8,35 +9,44 @@ ghost use Rattle.page_model.specs.Horizon.{frames_for};
 ghost use Rattle.page_model.specs.Time.{window_of};
 ghost use Rattle.page_model.specs.ValidScene.{IsValid};
 ghost use Rattle.row_pool.specs.Pools.{row_of};
-ghost use Rattle.sweep.specs.Swept.{AreAlikeAt, AreAllBegun, HasPlaces, IsFoundIn, IsRoom, IsSwept};
+ghost use Rattle.sweep.specs.Swept.{AreAlikeAt, AreAllBegun, HasPlaces, IsFoundIn, IsRoom, IsSwept, groups_in};
 
 use crate::room::Room;
 use crate::windows::{Found, look};
+use cell_groups::Groups;
 use cell_rows::{begin_rows, give_rows, push_frame, take_rows};
 use cell_tints::tints_in_frame;
 use page_model::{Scene, Setup};
 use region_split::Cuts;
 
-/// Sees all cells in the next frame, and looks at the window that ends there.
+/// Sees all groups of cells in the next frame, and looks at the window that ends there.
 fn step(
     scene: &Scene,
     setup: &Setup,
     cuts: &Cuts,
+    groups: &Groups,
     frame: u32,
     found: Found,
     room: &mut Room,
 ) -> Found
     requires valid { IsValid scene.now }
     requires few { frame < 2 ^ 31 }
-    requires cells { AreAlikeAt scene.now setup.now cuts.now frame }
-    requires places { HasPlaces (cells_of cuts.now) room.old }
-    requires swept { IsSwept scene.now setup.now cuts.now frame room.old.pool found }
-    ensures swept { IsSwept scene.now setup.now cuts.now (frame + 1) room.new.pool result }
-    ensures places { HasPlaces (cells_of cuts.now) room.new }
-    ensures only { OnlyRows (cells_of cuts.now) room.old.pool room.new.pool }
+    requires cells { AreAlikeAt scene.now setup.now cuts.now groups.now frame }
+    requires places { HasPlaces (cells_of cuts.now) (groups_in groups.now) room.old }
+    requires swept { IsSwept scene.now setup.now cuts.now groups.now frame room.old.pool found }
+    ensures swept { IsSwept scene.now setup.now cuts.now groups.now (frame + 1) room.new.pool result }
+    ensures places { HasPlaces (cells_of cuts.now) (groups_in groups.now) room.new }
+    ensures only { OnlyRows (groups_in groups.now) room.old.pool room.new.pool }
 {
     let rate = setup.rate();
-    tints_in_frame(scene, setup, cuts, frame, room.tints.as_mut_slice());
+    tints_in_frame(
+        scene,
+        setup,
+        cuts,
+        groups.firsts(),
+        frame,
+        room.tints.as_mut_slice(),
+    );
     push_frame(
         &mut room.pool,
         rate,
@@ -50,6 +60,7 @@ fn step(
     look(
         found,
         cuts,
+        groups,
         room.flags.as_slice(),
         frame - u32::from(rate),
         room.marks.as_mut_slice(),
@@ -58,17 +69,25 @@ fn step(
 }
 
 /// Goes through the frames of so many windows, up to the first window that has many sure flags.
-fn pass(scene: &Scene, setup: &Setup, cuts: &Cuts, windows: u32, room: &mut Room) -> Found
+fn pass(
+    scene: &Scene,
+    setup: &Setup,
+    cuts: &Cuts,
+    groups: &Groups,
+    windows: u32,
+    room: &mut Room,
+) -> Found
     requires valid { IsValid scene.now }
     requires few { windows ≤ 100000 }
     requires cells { AreAlikeCells scene.now setup.now (frames_for setup.now windows) cuts.now }
-    requires places { HasPlaces (cells_of cuts.now) room.old }
-    requires roomy { AreRoomy (window_of setup.now) (cells_of cuts.now) room.old.pool }
-    requires begun { AreAllBegun (window_of setup.now) (cells_of cuts.now) room.old.pool }
+    requires groups { AreGroups scene.now setup.now (frames_for setup.now windows) cuts.now groups.now }
+    requires places { HasPlaces (cells_of cuts.now) (groups_in groups.now) room.old }
+    requires roomy { AreRoomy (window_of setup.now) (groups_in groups.now) room.old.pool }
+    requires begun { AreAllBegun (window_of setup.now) (groups_in groups.now) room.old.pool }
     ensures found { IsFoundIn scene.now setup.now cuts.now windows result }
-    ensures roomy { AreRoomy (window_of setup.now) (cells_of cuts.now) room.new.pool }
-    ensures places { HasPlaces (cells_of cuts.now) room.new }
-    ensures only { OnlyRows (cells_of cuts.now) room.old.pool room.new.pool }
+    ensures roomy { AreRoomy (window_of setup.now) (groups_in groups.now) room.new.pool }
+    ensures places { HasPlaces (cells_of cuts.now) (groups_in groups.now) room.new }
+    ensures only { OnlyRows (groups_in groups.now) room.old.pool room.new.pool }
 {
     let mut found = Found {
         sure: None,
@@ -78,7 +97,7 @@ fn pass(scene: &Scene, setup: &Setup, cuts: &Cuts, windows: u32, room: &mut Room
         if found.sure.is_some() {
             return found;
         }
-        found = step(scene, setup, cuts, frame, found, room);
+        found = step(scene, setup, cuts, groups, frame, found, room);
     }
     found
 }
@@ -88,21 +107,23 @@ pub(crate) fn find(
     scene: &Scene,
     setup: &Setup,
     cuts: &Cuts,
+    groups: &Groups,
     windows: u32,
     room: &mut Room,
 ) -> Found
     requires valid { IsValid scene.now }
     requires few { windows ≤ 100000 }
     requires cells { AreAlikeCells scene.now setup.now (frames_for setup.now windows) cuts.now }
-    requires room { IsRoom (window_of setup.now) (cells_of cuts.now) room.old }
+    requires groups { AreGroups scene.now setup.now (frames_for setup.now windows) cuts.now groups.now }
+    requires room { IsRoom (window_of setup.now) (cells_of cuts.now) (groups_in groups.now) room.old }
     ensures found { IsFoundIn scene.now setup.now cuts.now windows result }
-    ensures room { IsRoom (window_of setup.now) (cells_of cuts.now) room.new }
+    ensures room { IsRoom (window_of setup.now) (cells_of cuts.now) (groups_in groups.now) room.new }
     ensures free { room.new.pool.free ≡ room.old.pool.free }
 {
-    let cells = cuts.cells();
-    take_rows(&mut room.pool, cells);
-    begin_rows(&mut room.pool, cells, setup.rate());
-    let found = pass(scene, setup, cuts, windows, room);
-    give_rows(&mut room.pool, cells);
+    let rows = groups.firsts().len() as u32;
+    take_rows(&mut room.pool, rows);
+    begin_rows(&mut room.pool, rows, setup.rate());
+    let found = pass(scene, setup, cuts, groups, windows, room);
+    give_rows(&mut room.pool, rows);
     found
 }

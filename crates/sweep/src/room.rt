@@ -7,19 +7,19 @@ use page_model::{NoMemory, Rgb, Tint};
 use row_pool::Pool;
 use std::alloc::Global;
 
-/// The tint of a cell that wasn't seen yet.
+/// The tint of a group that wasn't seen yet.
 const BLACK: Tint = Tint {
     lo: Rgb { r: 0, g: 0, b: 0 },
     hi: Rgb { r: 0, g: 0, b: 0 },
 };
 
-/// The flag of a cell that wasn't seen yet.
+/// The flag of a group that wasn't seen yet.
 const UNFLAGGED: Flag = Flag {
     possible: false,
     sure: false,
 };
 
-/// A row for each cell, and what is known of each in the frame that is looked at.
+/// A row for each cell, of which each group of cells uses one, and what is known in the frame that is looked at.
 #[derive(Drop)]
 pub(crate) struct Room {
     pub(crate) pool: Pool,
@@ -32,21 +32,26 @@ pub(crate) struct Room {
 }
 
 impl Room {
-    /// Room for so many cells at a rate.
+    /// Room for so many cells, in so many groups, at a rate.
     ///
     /// # Errors
     ///
     /// `NoMemory` where memory is refused.
-    pub(crate) fn open(alloc: Global, cells: u32, rate: u16) -> Result<Room, NoMemory>
+    pub(crate) fn open(
+        alloc: Global,
+        cells: u32,
+        groups: usize,
+        rate: u16,
+    ) -> Result<Room, NoMemory>
         requires some { 1 ≤ rate }
         requires limit { rate ≤ 240 }
         requires few { cells * (9 * (rate + 1)) ≤ 2 ^ 26 }
-        ensures room { IfOk result (λ room. IsRoom rate cells room) }
+        ensures room { IfOk result (λ room. IsRoom rate cells groups room) }
         ensures free { IfOk result (λ room. count_by (λ is_free. is_free) room.pool.free ≡ cells) }
     {
         let pool = Pool::open(alloc, cells, row_words(rate))?;
-        let tints = vec![in alloc; BLACK; cells as usize]?;
-        let flags = vec![in alloc; UNFLAGGED; cells as usize]?;
+        let tints = vec![in alloc; BLACK; groups]?;
+        let flags = vec![in alloc; UNFLAGGED; groups]?;
         let marks = vec![in alloc; false; cells as usize]?;
         let work = vec![in alloc; 0u32; cells as usize]?;
         Ok(Room {

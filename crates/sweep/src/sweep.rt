@@ -10,19 +10,21 @@ use crate::pass::find;
 use crate::room::Room;
 use crate::types::{OpenFault, Verdict};
 use apart_judge::judge_apart;
+use cell_groups::Groups;
 use page_model::{Scene, Setup};
 use period_frames::needed;
 use region_split::{CutFault, Cuts};
 use std::alloc::Global;
 use std::marker::Model;
 
-/// A scene and a setup, the cells, how many windows have to be looked at, and the room for one pass over them. A
-/// scene whose regions were judged by themselves has been judged when it is opened: it passes.
+/// A scene and a setup, the cells and their groups, how many windows have to be looked at, and the room for one pass
+/// over them. A scene whose regions were judged by themselves has been judged when it is opened: it passes.
 #[derive(Drop)]
 pub struct Sweep {
     scene: Scene,
     setup: Setup,
     cuts: Cuts,
+    groups: Groups,
     needed: u32,
     room: Room,
     apart: bool,
@@ -30,8 +32,7 @@ pub struct Sweep {
 
 impl Model for Sweep {
     ghost use Rattle.std.specs.Prelude.{count_by, length};
-    ghost use Rattle.page_model.specs.Time.{window_of};
-    ghost use Rattle.sweep.specs.Swept.{IsRoom};
+    ghost use Rattle.sweep.specs.Swept.{IsSweeping};
     ghost use Rattle.sweep.specs.Verdicts.{Judged};
 
     ghost Value = { Judged };
@@ -46,7 +47,7 @@ impl Model for Sweep {
       apart = s.apart;
     } };
 
-    ghost invariant = { λ s. IsRoom (window_of s.setup) (length s.room.pool.rows) s.room };
+    ghost invariant = { λ s. IsSweeping s.apart s.scene s.setup s.needed s.cuts s.groups s.room };
 }
 
 impl Sweep {
@@ -91,6 +92,7 @@ impl Sweep {
             &self.scene,
             &self.setup,
             &self.cuts,
+            &self.groups,
             self.needed,
             &mut self.room,
         )
@@ -155,11 +157,19 @@ fn open_whole(
     requires cut { IsCut scene setup (frames_for setup needed) cuts }
     ensures { IsOpening scene setup result }
 {
-    let room = Room::open(alloc, cuts.cells(), setup.rate())?;
+    let groups = Groups::of(
+        alloc,
+        &scene,
+        &setup,
+        &cuts,
+        needed + u32::from(setup.rate()) + 1,
+    )?;
+    let room = Room::open(alloc, cuts.cells(), groups.firsts().len(), setup.rate())?;
     Ok(Sweep {
         scene,
         setup,
         cuts,
+        groups,
         needed,
         room,
         apart: false,
@@ -176,11 +186,13 @@ fn open_apart(alloc: Global, scene: Scene, setup: Setup) -> Result<Sweep, OpenFa
         return Err(OpenFault::Frames);
     };
     let cuts = Cuts::whole(alloc, &setup)?;
-    let room = Room::open(alloc, 0, setup.rate())?;
+    let groups = Groups::none(alloc);
+    let room = Room::open(alloc, 0, 0, setup.rate())?;
     Ok(Sweep {
         scene,
         setup,
         cuts,
+        groups,
         needed: frames,
         room,
         apart: true,

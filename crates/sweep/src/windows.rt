@@ -1,18 +1,19 @@
 // Windows with too many flagged pixels.
-ghost use Rattle.std.specs.Prelude.{◌≡◌, ◌<◌, ◌≤◌, length};
+ghost use Rattle.std.specs.Prelude.{ℕ, ◌≡◌, ◌<◌, length, slice_index};
 ghost use Rattle.page_model.specs.Cells.{cells_between};
 ghost use Rattle.page_model.specs.declared.scene.Scene.{Scene as Page};
 ghost use Rattle.page_model.specs.declared.setup.Setup.{Setup as Viewing};
 ghost use Rattle.region_split.specs.Cutting.{Edges};
 ghost use Rattle.sweep.specs.declared.windows.Sort.TheVariants.{Possible, Sure};
 ghost use Rattle.sweep.specs.Swept.{IsFoundIn, IsTold};
-ghost use Rattle.sweep.specs.Told.{AreMarksBefore, IsBestOf, IsFinding, IsLookedAt, told};
+ghost use Rattle.sweep.specs.Told.{AreMarksOf, HaveFlags, IsFinding, IsLookedAt, spread, told};
 
 use crate::types::{Reason, Verdict};
+use cell_groups::Groups;
 use flash_count::Flag;
 use page_model::BadWindow;
 use region_split::Cuts;
-use window_area::{Best, greatest};
+use window_area::{Best, greatest_above};
 
 /// A quarter of the 341 by 256 rectangle, in pixels.
 const QUARTER: u32 = 21_824;
@@ -66,51 +67,49 @@ impl Found {
     }
 }
 
-/// Marks the cells that are flagged.
-fn mark(sort: Sort, flags: &[Flag], marks: &mut [bool])
-    requires { length flags.now ≡ length marks.old }
-    ensures { AreMarksBefore sort flags.now (length marks.old) marks.new }
+/// Marks the cells whose groups are flagged.
+fn mark(sort: Sort, groups: &[u32], flags: &[Flag], marks: &mut [bool])
+    requires all { length groups.now ≡ length marks.old }
+    requires each { (cell : ℕ) → cell < length groups.now → slice_index groups.now cell < length flags.now }
+    ensures { AreMarksOf sort groups.now flags.now (length marks.old) marks.new }
 {
     for cell in 0..marks.len() {
-        marks[cell] = sort.of(flags[cell]);
+        marks[cell] = sort.of(flags[groups[cell] as usize]);
     }
 }
 
-/// The most that the rectangle holds of the cells that are flagged.
-fn best_of(sort: Sort, cuts: &Cuts, flags: &[Flag], marks: &mut [bool], work: &mut [u32]) -> Best
-    requires flags { length flags.now ≡ cells_between cuts.now.xs cuts.now.ys }
-    requires marks { length marks.old ≡ cells_between cuts.now.xs cuts.now.ys }
-    requires work { length work.old ≡ cells_between cuts.now.xs cuts.now.ys }
-    ensures { IsBestOf sort cuts.now flags.now result.area result.x result.y }
+/// The window that starts at a frame, by where the rectangle first holds the most.
+fn window_at(start: u32, best: Best) -> BadWindow
+    ensures start { result.start ≡ start }
+    ensures x { result.x ≡ best.x }
+    ensures y { result.y ≡ best.y }
 {
-    mark(sort, flags, marks);
-    greatest(cuts.xs(), cuts.ys(), marks, work)
+    BadWindow {
+        start,
+        x: best.x,
+        y: best.y,
+    }
 }
 
-/// The window that starts at a frame and has these flags, where the rectangle holds more than a quarter of flagged
-/// pixels: it is told by where the rectangle first holds the most.
+/// The window that starts at a frame and has these flags of the groups, where the rectangle holds more than a quarter
+/// of flagged pixels: it is told by where the rectangle first holds the most.
 fn many_in(
     sort: Sort,
     cuts: &Cuts,
+    groups: &Groups,
     flags: &[Flag],
     start: u32,
     marks: &mut [bool],
     work: &mut [u32],
 ) -> Option<BadWindow>
-    requires flags { length flags.now ≡ cells_between cuts.now.xs cuts.now.ys }
+    requires flags { HaveFlags cuts.now groups.now flags.now }
     requires marks { length marks.old ≡ cells_between cuts.now.xs cuts.now.ys }
     requires work { length work.old ≡ cells_between cuts.now.xs cuts.now.ys }
-    ensures { IsFinding sort cuts.now flags.now start result }
+    ensures { IsFinding sort cuts.now (spread groups.now flags.now) start result }
 {
-    let best = best_of(sort, cuts, flags, marks, work);
-    if best.area > QUARTER {
-        return Some(BadWindow {
-            start,
-            x: best.x,
-            y: best.y,
-        });
-    }
-    None
+    mark(sort, groups.of_cells(), flags, marks);
+    let best = greatest_above(QUARTER, cuts.xs(), cuts.ys(), marks, work)?;
+    Some(window_at(start, best))
 }
 
 /// What was found before, or else what is found in the window that starts at a frame and has these flags.
@@ -118,19 +117,20 @@ fn look_for(
     sort: Sort,
     found: Option<BadWindow>,
     cuts: &Cuts,
+    groups: &Groups,
     flags: &[Flag],
     start: u32,
     marks: &mut [bool],
     work: &mut [u32],
 ) -> Option<BadWindow>
-    requires flags { length flags.now ≡ cells_between cuts.now.xs cuts.now.ys }
+    requires flags { HaveFlags cuts.now groups.now flags.now }
     requires marks { length marks.old ≡ cells_between cuts.now.xs cuts.now.ys }
     requires work { length work.old ≡ cells_between cuts.now.xs cuts.now.ys }
-    ensures { IsLookedAt sort cuts.now flags.now start found result }
+    ensures { IsLookedAt sort cuts.now (spread groups.now flags.now) start found result }
 {
     match found {
         Some(window) => Some(window),
-        None => many_in(sort, cuts, flags, start, marks, work),
+        None => many_in(sort, cuts, groups, flags, start, marks, work),
     }
 }
 
@@ -138,22 +138,33 @@ fn look_for(
 pub(crate) fn look(
     found: Found,
     cuts: &Cuts,
+    groups: &Groups,
     flags: &[Flag],
     start: u32,
     marks: &mut [bool],
     work: &mut [u32],
 ) -> Found
-    requires flags { length flags.now ≡ cells_between cuts.now.xs cuts.now.ys }
+    requires flags { HaveFlags cuts.now groups.now flags.now }
     requires marks { length marks.old ≡ cells_between cuts.now.xs cuts.now.ys }
     requires work { length work.old ≡ cells_between cuts.now.xs cuts.now.ys }
-    ensures sure { IsLookedAt Sure cuts.now flags.now start found.sure result.sure }
-    ensures possible { IsLookedAt Possible cuts.now flags.now start found.possible result.possible }
+    ensures sure { IsLookedAt Sure cuts.now (spread groups.now flags.now) start found.sure result.sure }
+    ensures possible { IsLookedAt Possible cuts.now (spread groups.now flags.now) start found.possible result.possible }
 {
-    let sure = look_for(Sort::Sure, found.sure, cuts, flags, start, marks, work);
+    let sure = look_for(
+        Sort::Sure,
+        found.sure,
+        cuts,
+        groups,
+        flags,
+        start,
+        marks,
+        work,
+    );
     let possible = look_for(
         Sort::Possible,
         found.possible,
         cuts,
+        groups,
         flags,
         start,
         marks,

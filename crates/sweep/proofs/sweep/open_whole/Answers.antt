@@ -7,6 +7,6 @@ use Rattle.sweep.proofs.sweep.open_whole.Goals as goal
 
 pub open-requires-clause-few : goal.open-requires-clause-few
 open-requires-clause-few c =
-    subst (λ (cells : ℕ). cells * (9 * (c.rate.result + 1)) ≤ 67108864) (sym c.cells.ensures)
-    (subst (λ (rate : ℕ). cells_between c.args.cuts.xs c.args.cuts.ys * (9 * (rate + 1)) ≤ 67108864) (sym c.rate.ensures.value)
+    subst (λ (cells : ℕ). cells * (9 * (c.rate-2.result + 1)) ≤ 67108864) (sym c.cells.ensures)
+    (subst (λ (rate : ℕ). cells_between c.args.cuts.xs c.args.cuts.ys * (9 * (rate + 1)) ≤ 67108864) (sym c.rate-2.ensures.value)
     (words-few (window_of c.args.setup) (cells_between c.args.cuts.xs c.args.cuts.ys) c.args.needed c.requires.cut.few_enough))
