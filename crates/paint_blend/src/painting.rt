@@ -9,7 +9,8 @@ ghost use Rattle.flash_laws.specs.SureLaws.{IsOf};
 ghost use Rattle.tint_laws.specs.NestLaws.{LiesIn};
 ghost use Rattle.frame_state.specs.Scenes.{is_cubic};
 ghost use Rattle.frame_state.specs.States.{AreOwn, IsInSlots, state_as, states_as};
-ghost use Rattle.paint_blend.specs.Paint.{AreKnown, AreReady, AreReadyBoxes, AreStates, AreWide, IsOrdered, OpaqueHides, box_over, own_tint, span_as};
+ghost use Rattle.paint_blend.specs.Paint.{AreKnown, AreReady, AreReadyBoxes, AreStates, AreWide, IsOrdered};
+ghost use Rattle.paint_blend.specs.Paint.{OpaqueHides, box_over, own_tint, span_as};
 
 use crate::blending::{blended_span, combined_span, hull, span_of};
 use crate::covering::is_at;
@@ -184,8 +185,8 @@ fn with_boxes(states: &[LayerState], boxes: &[u16], x: u16, y: u16, under: Tint)
     tint
 }
 
-// The tint of a pixel. What lies under the topmost box that hides it isn't painted, and boxes that surely miss the pixel are
-// looked at once.
+// The tint of a pixel. What lies under the topmost box that hides it isn't painted, and boxes that surely miss the
+// pixel over or under all others are looked at once.
 fn painted(scene: &Scene, states: &[LayerState], x: u16, y: u16) -> Tint
     requires valid { IsValid scene.now }
     requires states { length states.now ≡ length scene.now.layers }

@@ -11,7 +11,8 @@ use frame_state::{LayerState, Shown};
 // The greatest cover and the greatest alpha.
 const FULL: i32 = 255;
 
-// What a box does at a pixel: surely nothing, something that what lies under it may show through, or its own colour alone.
+// What a box does at a pixel: surely nothing, something that what lies under it may show through, or it shows its own
+// colour alone.
 #[derive(Clone, Copy)]
 enum Touch {
     Misses,
@@ -32,8 +33,8 @@ fn touch_at(state: &LayerState, x: u16, y: u16) -> Touch
     }
 }
 
-/// The place of the topmost box that hides what lies under it at a pixel, if there is one, and the places of the boxes above
-/// it that may be there: they lie from the first one up to an end.
+/// The place of the topmost box that hides what lies under it at a pixel, if there is one, and the places of the boxes
+/// above it that may be there: they lie from the first one up to an end.
 #[derive(Clone, Copy)]
 pub struct Seen {
     pub hiding: Option<usize>,
