@@ -1,8 +1,8 @@
 -- What lies under an opaque box isn't seen, so painting may begin at it.
-use Rattle.std.proofs.Common.{◌≡◌, ℕ, zero, suc, List, ◌+◌, ◌-◌, ◌≤◌, take, drop, get_or, length, arith, refl, sym, ap, ◌∙◌, subst}
+use Rattle.std.proofs.Common.{◌≡◌, ℕ, zero, suc, List, ◌+◌, ◌-◌, ◌≤◌, take, drop, get_or, length, arith, refl, sym, ap, ◌∙◌, subst, ◌<◌}
 use Rattle.std.specs.Prelude.{ℤ, pos, negsuc, ◌≤ℤ◌, fold, max, min}
 use Rattle.std.proofs.lemmas.Int.{ints}
-use Rattle.std.proofs.lemmas.List.{take-append-drop}
+use Rattle.std.proofs.lemmas.List.{drop-take, take-append-drop, take-take, take_all}
 use Rattle.std.proofs.lemmas.List.Sums.{fold-append, fold_more}
 use Rattle.page_model.specs.declared.colour.Tint.{Tint}
 use Rattle.page_model.specs.Colour.{blended}
@@ -14,7 +14,8 @@ use Rattle.frame_state.specs.States.{IsInSlot, IsInSlots, eight_bits, state_as, 
 use Rattle.frame_state.proofs.ListLemmas.{states_as-there}
 use Rattle.wide_laws.proofs.PaintLemmas.{blend-ends}
 use Rattle.paint_blend.specs.Paint.{AreReadyBoxes, OpaqueHides, own_tint}
-use Rattle.paint_blend.specs.Seen.{AreMissed, BeginsAt}
+use Rattle.paint_blend.specs.declared.topmost.Seen.{Seen}
+use Rattle.paint_blend.specs.Seen.{AreMissed, BeginsAt, IsSeen}
 
 -- a number whose lower end is the greatest is the greatest at both ends
 whole-full : (loose : Loose) → IsInSlot eight_bits loose → loose.lo ≡ pos 255 → span_of loose ≡ full_alpha
@@ -94,47 +95,58 @@ fold-missed states column row boxes under first (suc more) within missed =
 abbrev below : List LayerState → ℕ → ℕ → List ℕ → Tint → ℕ → Tint
 below states column row boxes under place = fold (tint_box (states_as states) column row) under (take place boxes)
 
--- from there on the other boxes give what all give
-fold-on : (states : List LayerState) (column row : ℕ) (boxes rest : List ℕ) (under tint result : Tint) (place : ℕ)
-    → tint ≡ below states column row boxes under place → rest ≡ drop place boxes
+-- from there up to a place behind which boxes are missed they give what all give
+fold-on : (states : List LayerState) (column row : ℕ) (boxes rest : List ℕ) (under tint result : Tint) (first end : ℕ)
+    → first ≤ end → end ≤ length boxes → AreMissed states boxes column row end (length boxes)
+    → tint ≡ below states column row boxes under first → rest ≡ take (end - first) (drop first boxes)
     → result ≡ fold (tint_box (states_as states) column row) tint rest
     → result ≡ fold (tint_box (states_as states) column row) under boxes
-fold-on states column row boxes rest under tint result place is above painted =
+fold-on states column row boxes rest under tint result first end order inside missed is rest_is painted =
     let next = tint_box (states_as states) column row in
+    let more : ℕ = length boxes - end in
+    let upto : end + more ≡ length boxes = omega (arith, inside) in
+    let last : first + (end - first) ≡ end = omega (arith, order) in
+    let part = drop-take first (end - first) boxes in
     painted
-    ∙ ap (fold next tint) above
-    ∙ ap (λ before. fold next before (drop place boxes)) is
-    ∙ sym (fold-append next under (take place boxes) (drop place boxes))
-    ∙ ap (fold next under) (take-append-drop place boxes)
+    ∙ ap (fold next tint) (rest_is ∙ sym part ∙ ap (λ n. drop first (take n boxes)) last)
+    ∙ ap (λ before. fold next before (drop first (take end boxes))) (is ∙ ap (fold next under) (sym (take-take first end boxes order)))
+    ∙ sym (fold-append next under (take first (take end boxes)) (drop first (take end boxes)))
+    ∙ ap (fold next under) (take-append-drop first (take end boxes))
+    ∙ sym (fold-missed states column row boxes under end more (omega (arith, upto)) (λ k from before. missed k from (omega (arith, upto))))
+    ∙ ap (fold next under) (take_all (end + more) boxes (omega (arith, upto)))
 
--- where all boxes are painted but those that are missed at first
-pub seen-from_ground : (states : List LayerState) (column row : ℕ) (boxes rest : List ℕ) (above : ℕ) (under result : Tint)
-    → above ≤ length boxes → AreMissed states boxes column row 0 above → rest ≡ drop above boxes
+-- where all boxes are painted but those that are missed
+pub seen-from_ground : (states : List LayerState) (column row : ℕ) (boxes rest : List ℕ) (seen : Seen) (under result : Tint)
+    → IsSeen states boxes column row seen → AreMissed states boxes column row 0 seen.first
+    → rest ≡ take (seen.end - seen.first) (drop seen.first boxes)
     → result ≡ fold (tint_box (states_as states) column row) under rest
     → result ≡ fold (tint_box (states_as states) column row) under boxes
-seen-from_ground states column row boxes rest above under result inside missed rest_is painted =
-    let same : above ≡ 0 + above = omega arith in
-    let kept = fold-missed states column row boxes under 0 above (omega (arith, inside)) (λ place from before. missed place from (omega arith)) in
-    fold-on states column row boxes rest under under result above
+seen-from_ground states column row boxes rest seen under result is missed rest_is painted =
+    let same : seen.first ≡ 0 + seen.first = omega arith in
+    let kept = fold-missed states column row boxes under 0 seen.first (omega (arith, is.order, is.inside))
+    (λ place from before. missed place from (omega arith)) in
+    fold-on states column row boxes rest under under result seen.first seen.end is.order is.inside is.missed
     (sym (ap (below states column row boxes under) same ∙ kept)) rest_is painted
 
 -- where one hides what lies under it
-pub seen-from_box : (states : List LayerState) (column row : ℕ) (boxes rest : List ℕ) (place above : ℕ) (d : LayerState)
-    (under tint result : Tint) → AreReadyBoxes states boxes → above ≤ length boxes → BeginsAt states boxes column row place above
+pub seen-from_box : (states : List LayerState) (column row : ℕ) (boxes rest : List ℕ) (seen : Seen) (place : ℕ) (d : LayerState)
+    (under tint result : Tint) → AreReadyBoxes states boxes → IsSeen states boxes column row seen
+    → BeginsAt states boxes column row place seen.first
     → OpaqueHides (state_as (get_or states (get_or boxes place 0) d))
-    → tint ≡ own_tint (state_as (get_or states (get_or boxes place 0) d)) → rest ≡ drop above boxes
+    → tint ≡ own_tint (state_as (get_or states (get_or boxes place 0) d))
+    → rest ≡ take (seen.end - seen.first) (drop seen.first boxes)
     → result ≡ fold (tint_box (states_as states) column row) tint rest
     → result ≡ fold (tint_box (states_as states) column row) under boxes
-seen-from_box states column row boxes rest place above d under tint result ready inside begins law own rest_is painted =
-    let number : ℕ = get_or boxes place 0 in
-    let same = sym (states_as-there states number d (ready place 0 begins.there).there) in
+seen-from_box states column row boxes rest seen place d under tint result ready is begins law own rest_is painted =
+    let within : place < length boxes = omega (arith, begins.before, is.order, is.inside) in
+    let same = sym (states_as-there states (get_or boxes place 0) d (ready place 0 within).there) in
     let next = tint_box (states_as states) column row in
-    let more : ℕ = above - (place + 1) in
-    let upto : place + 1 + more ≡ above = let before = begins.before in omega arith in
+    let more : ℕ = seen.first - (place + 1) in
+    let upto : place + 1 + more ≡ seen.first = let before = begins.before in omega arith in
     let hidden = subst OpaqueHides same law column row (fold next under (take place boxes)) begins.hides in
-    let kept = fold-missed states column row boxes under (place + 1) more (omega (arith, upto, inside))
+    let kept = fold-missed states column row boxes under (place + 1) more (omega (arith, upto, is.order, is.inside))
     (λ k from before. begins.missed k from (omega (arith, upto))) in
-    fold-on states column row boxes rest under tint result above
-    (own ∙ ap own_tint same ∙ sym hidden ∙ sym (fold_more next under boxes place 0 begins.there) ∙ sym kept
-    ∙ ap (λ n. fold next under (take n boxes)) upto)
+    fold-on states column row boxes rest under tint result seen.first seen.end is.order is.inside is.missed
+    (own ∙ ap own_tint same ∙ sym hidden ∙ sym (fold_more next under boxes place 0 within) ∙ sym kept
+    ∙ ap (below states column row boxes under) upto)
     rest_is painted

@@ -1,8 +1,8 @@
 -- The states that are read are those of layers with a colour.
-use Rattle.std.proofs.Common.{◌≡◌, ℕ, ◌<◌, ◌≤◌, true, List, Option, Some, None, get_or, length, slice_get, take, ◌+◌, is_some, IsSome, arith, refl, sym, ap, ◌∙◌, subst, inl, inr}
+use Rattle.std.proofs.Common.{◌≡◌, ℕ, ◌<◌, ◌≤◌, true, List, Option, Some, None, get_or, length, slice_get, drop, take, ◌+◌, ◌-◌, is_some, IsSome, arith, refl, sym, ap, ◌∙◌, subst, inl, inr}
 use Rattle.std.specs.Prelude.{fold}
 use Rattle.std.proofs.lemmas.List.Sums.{fold_more}
-use Rattle.std.proofs.lemmas.List.Elements.{All-contains_itself}
+use Rattle.std.proofs.lemmas.List.Elements.{All-contains_itself, All-drop, All-take}
 use Rattle.std.proofs.lemmas.Option.{option_and_then_some, slice_get_cases}
 use Rattle.page_model.specs.declared.colour.Tint.{Tint}
 use Rattle.page_model.specs.declared.scene.Layer.{Layer}
@@ -54,6 +54,13 @@ pub order-ready : (scene : Scene) (states : List LayerState) (boxes : List ℕ) 
     → length states ≡ length scene.layers → AreReady scene (states_as states) → AreReadyBoxes states boxes
 order-ready scene states boxes are valid same ready =
     subst (AreReadyBoxes states) (sym are) (boxes-ready scene states valid same ready)
+
+-- and of those from a place up to an end
+pub part-ready : (states : List LayerState) (boxes part : List ℕ) (first end : ℕ) → part ≡ take (end - first) (drop first boxes)
+    → AreReadyBoxes states boxes → AreReadyBoxes states part
+part-ready states boxes part first end are ready =
+    subst (AreReadyBoxes states) (sym are)
+    (All-take (IsReadyBox states) (end - first) (drop first boxes) (All-drop (IsReadyBox states) first boxes ready))
 
 pub state-ready : (states : List LayerState) (number : ℕ) (d : LayerState) → IsReadyBox states number
     → IsInSlots (state_as (get_or states number d))

@@ -1,5 +1,5 @@
 // The tint of a pixel.
-ghost use Rattle.std.specs.Prelude.{ℕ, false, ◌≡◌, ◌^◌, ◌<◌, ◌≤◌, drop, fold, length, is_some};
+ghost use Rattle.std.specs.Prelude.{ℕ, false, ◌≡◌, ◌^◌, ◌<◌, ◌≤◌, ◌-◌, drop, fold, length, is_some, take};
 ghost use Rattle.page_model.specs.Colour as colours;
 ghost use Rattle.page_model.specs.Enclosure.{LooseState};
 ghost use Rattle.page_model.specs.LayerAt.{State};
@@ -9,7 +9,8 @@ ghost use Rattle.flash_laws.specs.SureLaws.{IsOf};
 ghost use Rattle.tint_laws.specs.NestLaws.{LiesIn};
 ghost use Rattle.frame_state.specs.Scenes.{is_cubic};
 ghost use Rattle.frame_state.specs.States.{AreOwn, IsInSlots, state_as, states_as};
-ghost use Rattle.paint_blend.specs.Paint.{AreKnown, AreReady, AreReadyBoxes, AreStates, AreWide, IsOrdered, OpaqueHides, box_over, own_tint, span_as};
+ghost use Rattle.paint_blend.specs.Paint.{AreKnown, AreReady, AreReadyBoxes, AreStates, AreWide, IsOrdered};
+ghost use Rattle.paint_blend.specs.Paint.{OpaqueHides, box_over, own_tint, span_as};
 
 use crate::blending::{blended_span, combined_span, hull, span_of};
 use crate::covering::is_at;
@@ -163,12 +164,13 @@ fn hiding_tint(state: &LayerState) -> Tint
     tint_by(span_of(state.r), span_of(state.g), span_of(state.b))
 }
 
-// The boxes from a place on.
-fn boxes_from(boxes: &[u16], place: usize) -> &[u16]
-    requires { place ≤ length boxes.now }
-    ensures { result.now ≡ drop place boxes.now }
+// The boxes from a place up to an end.
+fn boxes_between(boxes: &[u16], first: usize, end: usize) -> &[u16]
+    requires order { first ≤ end }
+    requires inside { end ≤ length boxes.now }
+    ensures { result.now ≡ take (end - first) (drop first boxes.now) }
 {
-    &boxes[place..]
+    &boxes[first..end]
 }
 
 // The tint after boxes are painted over another tint, in their order.
@@ -183,8 +185,8 @@ fn with_boxes(states: &[LayerState], boxes: &[u16], x: u16, y: u16, under: Tint)
     tint
 }
 
-// The tint of a pixel. What lies under the topmost box that hides it isn't painted, and boxes that surely miss the pixel are
-// looked at once.
+// The tint of a pixel. What lies under the topmost box that hides it isn't painted, and boxes that surely miss the
+// pixel over or under all others are looked at once.
 fn painted(scene: &Scene, states: &[LayerState], x: u16, y: u16) -> Tint
     requires valid { IsValid scene.now }
     requires states { length states.now ≡ length scene.now.layers }
@@ -193,7 +195,7 @@ fn painted(scene: &Scene, states: &[LayerState], x: u16, y: u16) -> Tint
 {
     let boxes = scene.order.as_slice();
     let seen = seen_from(states, boxes, x, y);
-    let above = boxes_from(boxes, seen.above);
+    let above = boxes_between(boxes, seen.first, seen.end);
     match seen.hiding {
         Some(place) => {
             let tint = hiding_tint(&states[boxes[place] as usize]);

@@ -1,5 +1,6 @@
 // The greatest flagged area, and where it is.
-ghost use Rattle.std.specs.Prelude.{ℤ, MatchOption, pos, ◌≡◌, ◌+◌, ◌*◌, ◌<◌, ◌≤◌, ◌≤ℤ◌, length, min, nat_lt, if◌then◌else◌};
+ghost use Rattle.std.specs.Prelude.{ℤ, MatchOption, pos, ◌≡◌, ◌+◌, ◌*◌, ◌<◌, ◌≤◌, ◌≤ℤ◌, length, min, nat_lt};
+ghost use Rattle.std.specs.Prelude.{if◌then◌else◌};
 ghost use Rattle.window_area.specs.Edges.{AreEdges, bands};
 ghost use Rattle.window_area.specs.FlaggedArea.{flagged_area, HoldsAtMost, IsFirstColumn, IsFirstRow, IsGreatest};
 ghost use Rattle.window_area.specs.Sliding.{AreWeights, IsBestRow, IsLookedAt};
@@ -76,8 +77,8 @@ pub fn greatest(xs: &[u16], ys: &[u16], flags: &[bool], work: &mut [u32]) -> Bes
     best_row(0, xs, ys, flags, work).told()
 }
 
-/// The same where a rectangle holds more than a limit, and else none: rows in which no rectangle can are passed over, which
-/// takes less time than [`greatest`] where few pixels are flagged, or flagged ones are far apart.
+/// The same where a rectangle holds more than a limit, and else none: rows in which no rectangle can are passed over,
+/// which takes less time than [`greatest`] where few pixels are flagged, or flagged ones are far apart.
 pub fn greatest_above(
     limit: u32,
     xs: &[u16],
@@ -125,8 +126,8 @@ impl Lead {
     }
 }
 
-/// What no rectangle holds more than a stride further down, where none holds more than a bound and each row of pixels that
-/// comes in has so many flagged ones.
+/// What no rectangle holds more than a stride further down, where none holds more than a bound and each row of pixels
+/// that comes in has so many flagged ones.
 fn bound_after(bound: u32, stride: u32, width: u32) -> u32
     requires bound { bound ≤ 341 * 256 }
     requires stride { stride ≤ 4096 }

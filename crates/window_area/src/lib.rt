@@ -5,10 +5,10 @@
 //! pixels: [`greatest`] gives the greatest area, and the first position that has it. The key clauses
 //! are `most`, that no whole position has more, not even one past the viewport's ends, and `has`,
 //! that the told one has it. A window slides from edge to edge, as what it holds is greatest only
-//! where an edge meets one of its ends; no pixel is looked at. Where no rectangle of a row can hold more than the best
-//! before, its columns aren't gone through; [`greatest_above`] asks for what is more than a limit, and passes over more rows.
-//! [`total_area`] gives the number of all flashing pixels, which is found in less
-//! time and which no rectangle exceeds.
+//! where an edge meets one of its ends; no pixel is looked at. Where no rectangle of a row can hold more
+//! than the best before, its columns aren't gone through; [`greatest_above`] asks for what is more than a
+//! limit, and passes over more rows. [`total_area`] gives the number of all flashing pixels, which is found
+//! in less time and which no rectangle exceeds.
 //!
 //! It does not say how much is too much, nor which cells are flagged. That the area is the number of
 //! marked pixels of the definition of a bad window stands in `proofs/`.

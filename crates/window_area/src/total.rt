@@ -21,9 +21,9 @@ pub(crate) fn flagged_width(xs: &[u16], row: &[bool]) -> u32
     width
 }
 
-/// The number of flagged pixels in the whole viewport, in time that grows with the cells alone. The rectangle never holds
-/// more, so where the total is small no rectangle has to be looked for. The edges cut the viewport into cells, which are
-/// flagged row by row from the upper left.
+/// The number of flagged pixels in the whole viewport, in time that grows with the cells alone. The rectangle never
+/// holds more, so where the total is small no rectangle has to be looked for. The edges cut the viewport into cells,
+/// which are flagged row by row from the upper left.
 pub fn total_area(xs: &[u16], ys: &[u16], flags: &[bool]) -> u32
     requires columns { AreEdges xs.now }
     requires rows { AreEdges ys.now }
