@@ -1,3 +1,6 @@
+pub mod SingleLemmas
+pub mod PassLemmas
+pub mod LowerLemmas
 pub mod StillLemmas
 pub mod FlagLemmas
 pub mod RowLemmas

@@ -16,6 +16,8 @@
 
 mod changes;
 mod counting;
+mod latest;
+mod made;
 mod next;
 mod rows;
 mod starts;

@@ -1,7 +1,7 @@
 use Rattle.std.proofs.Common.{ℕ, ◌≡◌, ◌+◌, ◌<◌, ◌≤◌, get_or, length}
 use Rattle.std.specs.Prelude.{min}
 use Rattle.flash_count.specs.Rows.{number_of}
-use Rattle.flash_count.proofs.starts.lower.Given as goal
+use Rattle.flash_count.proofs.latest.lower.Given as goal
 
 abbrev pub invariant-loop-n : goal.invariant-loop-n
 invariant-loop-n l =
