@@ -1,3 +1,5 @@
+pub mod RedLemmas
+pub mod LaneLemmas
 pub mod SingleLemmas
 pub mod PassLemmas
 pub mod LowerLemmas

@@ -7,6 +7,7 @@ use Rattle.flash_count.specs.declared.changes.Change.TheVariants.{PossibleRise, 
 use Rattle.flash_count.specs.declared.latest.Latest.{Latest}
 use Rattle.flash_count.specs.declared.made.Made.{Made}
 use Rattle.flash_count.specs.Counting.{Makes}
+use Rattle.flash_count.specs.Lanes.{numbers_of}
 use Rattle.flash_count.specs.Made.{MadeByLight, MadeByRed}
 use Rattle.flash_count.specs.Pushing.{Lowered, LoweredIf, LoweredKind, latest_of}
 use Rattle.flash_count.specs.Rows.{column_of, opposite_of}
@@ -25,24 +26,24 @@ pub lowered-by : (row : List ℕ) (place age : ℕ) (from tint : Tint) (light re
     → LoweredIf (Makes change from tint) (latest_of change best) (get_or row (9 * place + column_of (opposite_of change)) 0) age
     (latest_of change least)
 lowered-by row place age from tint light red best least by_light by_red first second PossibleRise =
-    lowered-told PossibleRise light.up from tint row (9 * place + 1 + 1) (9 * place + 2) age best.light.up least.light.up (omega arith) by_light.up first.up
+    lowered-told PossibleRise light.up from tint row (9 * place + 1 + 1) (9 * place + 2) age (numbers_of best.light.up) (numbers_of least.light.up) (omega arith) by_light.up first.up
 lowered-by row place age from tint light red best least by_light by_red first second PossibleFall =
-    lowered-told PossibleFall light.down from tint row (9 * place + 1) (9 * place + 1) age best.light.down least.light.down (omega arith) by_light.down
+    lowered-told PossibleFall light.down from tint row (9 * place + 1) (9 * place + 1) age (numbers_of best.light.down) (numbers_of least.light.down) (omega arith) by_light.down
     first.down
 lowered-by row place age from tint light red best least by_light by_red first second SureRise =
-    lowered-told SureRise light.surely_up from tint row (9 * place + 1 + 3) (9 * place + 4) age best.light.surely_up least.light.surely_up (omega arith)
+    lowered-told SureRise light.surely_up from tint row (9 * place + 1 + 3) (9 * place + 4) age (numbers_of best.light.surely_up) (numbers_of least.light.surely_up) (omega arith)
     by_light.surely_up first.surely_up
 lowered-by row place age from tint light red best least by_light by_red first second SureFall =
-    lowered-told SureFall light.surely_down from tint row (9 * place + 1 + 2) (9 * place + 3) age best.light.surely_down least.light.surely_down
+    lowered-told SureFall light.surely_down from tint row (9 * place + 1 + 2) (9 * place + 3) age (numbers_of best.light.surely_down) (numbers_of least.light.surely_down)
     (omega arith) by_light.surely_down first.surely_down
 lowered-by row place age from tint light red best least by_light by_red first second PossiblyIntoRed =
-    lowered-told PossiblyIntoRed red.up from tint row (9 * place + 5 + 1) (9 * place + 6) age best.red.up least.red.up (omega arith) by_red.up second.up
+    lowered-told PossiblyIntoRed red.up from tint row (9 * place + 5 + 1) (9 * place + 6) age (numbers_of best.red.up) (numbers_of least.red.up) (omega arith) by_red.up second.up
 lowered-by row place age from tint light red best least by_light by_red first second PossiblyOutOfRed =
-    lowered-told PossiblyOutOfRed red.down from tint row (9 * place + 5) (9 * place + 5) age best.red.down least.red.down (omega arith) by_red.down
+    lowered-told PossiblyOutOfRed red.down from tint row (9 * place + 5) (9 * place + 5) age (numbers_of best.red.down) (numbers_of least.red.down) (omega arith) by_red.down
     second.down
 lowered-by row place age from tint light red best least by_light by_red first second SurelyIntoRed =
-    lowered-told SurelyIntoRed red.surely_up from tint row (9 * place + 5 + 3) (9 * place + 8) age best.red.surely_up least.red.surely_up (omega arith)
+    lowered-told SurelyIntoRed red.surely_up from tint row (9 * place + 5 + 3) (9 * place + 8) age (numbers_of best.red.surely_up) (numbers_of least.red.surely_up) (omega arith)
     by_red.surely_up second.surely_up
 lowered-by row place age from tint light red best least by_light by_red first second SurelyOutOfRed =
-    lowered-told SurelyOutOfRed red.surely_down from tint row (9 * place + 5 + 2) (9 * place + 7) age best.red.surely_down least.red.surely_down
+    lowered-told SurelyOutOfRed red.surely_down from tint row (9 * place + 5 + 2) (9 * place + 7) age (numbers_of best.red.surely_down) (numbers_of least.red.surely_down)
     (omega arith) by_red.surely_down second.surely_down

@@ -385,10 +385,10 @@ row-pushed rate turn tints tint old new words last stands next long there others
 -- a word has the numbers of a change
 pub word-starts : (rate turn : ℕ) (all : List Tint) (change : Change) (starts : List ℕ) (word : ℕ)
     → ((n : ℕ) → n < 8 → IsLatest (EndsWith change all (suc n) turn) rate turn (get_or starts n 0))
-    → ((i : ℕ) → byte word i ≡ get_or starts i 0) → (n : ℕ) → n ≤ 8 → IsLatest (EndsWith change all n turn) rate turn (number_of word n)
+    → ((i : ℕ) → i < 8 → byte word i ≡ get_or starts i 0) → (n : ℕ) → n ≤ 8 → IsLatest (EndsWith change all n turn) rate turn (number_of word n)
 word-starts rate turn all change starts word are is zero few = latest-self rate turn
 word-starts rate turn all change starts word are is (suc n) few =
-    subst (IsLatest (EndsWith change all (suc n) turn) rate turn) (sym (is n)) (are n (omega arith))
+    subst (IsLatest (EndsWith change all (suc n) turn) rate turn) (sym (is n (omega arith))) (are n (omega arith))
 
 -- the words of the eight changes
 pub record ChangeWords : Type 0 where

@@ -16,6 +16,7 @@
 
 mod changes;
 mod counting;
+mod lanes;
 mod latest;
 mod made;
 mod next;

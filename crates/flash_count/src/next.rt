@@ -5,7 +5,7 @@ ghost use Rattle.flash_count.specs.Pushing.{IsEndedAfter, TellAfter};
 use crate::latest::Latest;
 use crate::starts::{last_place, latest_starts};
 use crate::still::{is_still, later, words_kept};
-use crate::words::{bytes_of, first_word, word_of};
+use crate::words::{bytes_of, first_word};
 use page_model::Tint;
 
 /// Where the latest chains of eight changes start that ended before the next frame.
@@ -56,28 +56,28 @@ fn words_after(row: &[u64], rate: u16, turn: u32, tint: Tint) -> [u64; 9]
     let Latest { light, red } = latest;
     let possible = least(
         ended.possible,
-        light.up[7],
-        light.down[7],
-        red.up[7],
-        red.down[7],
+        light.up.last(),
+        light.down.last(),
+        red.up.last(),
+        red.down.last(),
     );
     let sure = least(
         ended.sure,
-        light.surely_up[7],
-        light.surely_down[7],
-        red.surely_up[7],
-        red.surely_down[7],
+        light.surely_up.last(),
+        light.surely_down.last(),
+        red.surely_up.last(),
+        red.surely_down.last(),
     );
     [
         first_word(tint, possible, sure),
-        word_of(light.up),
-        word_of(light.down),
-        word_of(light.surely_up),
-        word_of(light.surely_down),
-        word_of(red.up),
-        word_of(red.down),
-        word_of(red.surely_up),
-        word_of(red.surely_down),
+        light.up.word(),
+        light.down.word(),
+        light.surely_up.word(),
+        light.surely_down.word(),
+        red.up.word(),
+        red.down.word(),
+        red.surely_up.word(),
+        red.surely_down.word(),
     ]
 }
 

@@ -1,10 +1,10 @@
 // Where the latest chains start that end at the next frame.
 ghost use Rattle.std.specs.Prelude.{ℕ, ◌≡◌, ◌+◌, ◌-◌, ◌*◌, ◌%◌, ◌<◌, ◌≤◌, length, min};
 ghost use Rattle.flash_count.specs.declared.changes.Change.{Change};
-ghost use Rattle.flash_count.specs.Pushing.{AreStartsAfter, latest_of};
+ghost use Rattle.flash_count.specs.Pushing.{AreSmall, AreStartsAfter, latest_of};
 
 use crate::latest::{Latest, look_back, no_starts};
-use crate::made::light_of;
+use crate::made::next_tint;
 use page_model::Tint;
 
 /// The place of the frame before one, in a ring of so many.
@@ -37,16 +37,17 @@ fn frames_back(rate: u16, turn: u32) -> usize
 pub(crate) fn latest_starts(row: &[u64], rate: u16, turn: u32, tint: Tint) -> Latest
     requires limit { rate ≤ 240 }
     requires room { 9 * (rate + 1) ≤ length row.now }
-    ensures { (change : Change) → AreStartsAfter rate row.now turn tint change (latest_of change result) }
+    ensures starts { (change : Change) → AreStartsAfter rate row.now turn tint change (latest_of change result) }
+    ensures small { AreSmall result }
 {
     let window = usize::from(rate) + 1;
-    let light = light_of(tint);
+    let next = next_tint(tint);
     let mut best = no_starts(rate);
     let mut place = turn as usize % window;
     for age in 1..frames_back(rate, turn) + 1 {
         let behind = place;
         place = place_before(place, window);
-        look_back(&mut best, row, behind, place, tint, light, age as u8);
+        look_back(&mut best, row, behind, place, &next, age as u8);
     }
     best
 }

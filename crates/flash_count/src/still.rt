@@ -5,7 +5,7 @@ ghost use Rattle.flash_count.specs.Counting.{Makes};
 ghost use Rattle.flash_count.specs.Pushing.{IsStill, TellAfter};
 ghost use Rattle.flash_count.specs.Rows.{byte};
 
-use crate::made::{are_none, is_single, light_of, made_by_light, made_by_red};
+use crate::made::{are_none, is_single, made_by_light, made_by_red, next_tint};
 use crate::starts::last_place;
 use crate::words::{bytes_of, first_word, tint_of, word_of};
 use page_model::Tint;
@@ -25,7 +25,8 @@ fn changes_nothing(tint: Tint) -> bool
     if is_single(tint) {
         return true;
     }
-    let light = made_by_light(tint, tint, light_of(tint));
+    let next = next_tint(tint);
+    let light = made_by_light(tint, &next);
     let red = made_by_red(tint, tint);
     are_none(light, red)
 }

@@ -20,4 +20,4 @@ pub mod types;
 
 pub use change::{into_possible, into_sure, out_possible, out_sure, red_changes};
 pub use coordinates::chroma;
-pub use saturation::saturated;
+pub use saturation::{has_saturated, saturated};

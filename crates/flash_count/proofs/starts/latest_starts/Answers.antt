@@ -1,7 +1,8 @@
 -- The look back, frame by frame.
 use Rattle.std.proofs.Common.{ℕ, ◌≡◌, ◌∙◌, ◌+◌, ◌-◌, ◌%◌, [], ◌∷◌, ◌++◌, get_or, arith, inl, inr, sym, ap, subst}
+use Rattle.page_model.specs.declared.colour.Tint.{Tint}
 use Rattle.flash_count.specs.declared.latest.Latest.{Latest}
-use Rattle.flash_count.specs.Pushing.{latest_of}
+use Rattle.flash_count.specs.Pushing.{Looked, latest_of}
 use Rattle.flash_count.specs.Starts.{IsLatest}
 use Rattle.flash_count.proofs.PassLemmas.{starts-passed}
 use Rattle.flash_count.proofs.RowLemmas.{Back, starts-all, starts-none, starts-step}
@@ -13,9 +14,10 @@ loop-age-init c =
     let now : c.args.turn ≡ c.args.turn + 1 - 1 = omega arith in (
       ap (λ w. c.args.turn % w) window ∙ ap (λ t. t % (c.args.rate + 1)) now,
       omega arith,
+      c.no_starts-best.ensures.small,
       λ change tints count stands n few.
           starts-none c.args.rate c.args.turn tints c.args.tint change n (c.args.turn + 1 - 1) (get_or (latest_of change c.no_starts-best.result) n 0)
-          (omega arith) (c.no_starts-best.ensures change n few),
+          (omega arith) (c.no_starts-best.ensures.none change n few),
     )
 
 pub loop-age-preserved : goal.loop-age-preserved
@@ -33,10 +35,12 @@ loop-age-preserved c =
     let there : c.place_before-place.result ≡ (turn - age) % (rate + 1) = at ∙ ap (λ n. n % (rate + 1)) back in (
       at,
       c.place_before-place.ensures.inside,
+      c.look_back.ensures.small,
       λ change tints count stands n few.
-          let before = c.loop-age.invariant.2 change tints count stands n few in
+          let before = c.loop-age.invariant.3 change tints count stands n few in
           subst (λ low. IsLatest (Back change (tints ++ c.args.tint ∷ []) n low turn) rate turn (get_or (latest_of change c.look_back.new.best) n 0)) (sym back)
-          (elim c.look_back.ensures [
+          (elim (subst (λ (t : Tint). Looked c.args.row.now c.loop-age.place c.place_before-place.result t age c.loop-age.best c.look_back.new.best)
+          c.next_tint-next.ensures.tint c.look_back.ensures.looked) [
             | inl passed ↦
                 subst (λ (best : Latest). IsLatest (Back change (tints ++ c.args.tint ∷ []) n (turn - age) turn) rate turn (get_or (latest_of change best) n 0))
                 (sym passed.2)
@@ -51,7 +55,7 @@ loop-age-preserved c =
           ]),
     )
 
-pub returns : goal.returns
-returns c change tints count stands n few =
+pub returns-clause-starts : goal.returns-clause-starts
+returns-clause-starts c change tints count stands n few =
     starts-all c.args.rate c.args.turn tints c.args.tint change n (c.args.turn + 1 - c.loop-age.age) (get_or (latest_of change c.loop-age.best) n 0)
-    (omega (arith, c.loop-age-test.false, c.frames_back-age-end.ensures)) (c.loop-age.invariant.2 change tints count stands n few)
+    (omega (arith, c.loop-age-test.false, c.frames_back-age-end.ensures)) (c.loop-age.invariant.3 change tints count stands n few)

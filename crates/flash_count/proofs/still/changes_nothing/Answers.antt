@@ -1,5 +1,5 @@
 -- A single colour makes no change with itself, and of another tint all changes are tried.
-use Rattle.std.proofs.Common.{◌≡◌, Bool, false, true, inl, inr, refl}
+use Rattle.std.proofs.Common.{◌≡◌, Bool, false, true, inl, inr, refl, subst}
 use Rattle.std.specs.Prelude.{◌↔◌, IsTrue}
 use Rattle.std.proofs.lemmas.Bool.{cases_Bool}
 use Rattle.page_model.specs.declared.colour.Tint.{Tint}
@@ -53,7 +53,7 @@ returns-then-is_single c = ((λ yes. single-still c.args.tint (c.is_single.ensur
 
 pub returns : goal.returns
 returns c =
-    let light = c.made_by_light-light.ensures in
+    let light = subst (λ (t : Tint). MadeByLight c.args.tint t c.made_by_light-light.result) c.next_tint-next.ensures.tint c.made_by_light-light.ensures in
     let red = c.made_by_red-red.ensures in (
       λ yes.
           let both = c.are_none.ensures.0 yes in
