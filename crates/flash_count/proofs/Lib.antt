@@ -1,3 +1,8 @@
+pub mod RedLemmas
+pub mod LaneLemmas
+pub mod SingleLemmas
+pub mod PassLemmas
+pub mod LowerLemmas
 pub mod StillLemmas
 pub mod FlagLemmas
 pub mod RowLemmas

@@ -192,22 +192,20 @@ starts-more rate age low place tints tint row change best least n stands some wi
           (λ at_frame. none.0 (at-made change tints tint (tint_in (get_or row (9 * place) 0)) frame there at_frame)) before)
     ]
 
--- the same with the tint, the place and the number of frames by name
-pub starts-step : (rate age turn place column : ℕ) (tints : List Tint) (tint earlier : Tint) (row : List ℕ) (change : Change) (best least : List ℕ)
-    (n : ℕ) → length tints ≡ turn → StandsFor rate tints row → 0 < age → age ≤ turn → age ≤ rate → rate ≤ 240
-    → place ≡ (turn - age) % (rate + 1) → n < 8 → earlier ≡ tint_in (get_or row (9 * place) 0) → column ≡ column_of (opposite_of change)
-    → LoweredIf (Makes change earlier tint) best (get_or row (9 * place + column) 0) age least
+-- the same with the number of frames by name
+pub starts-step : (rate age turn place : ℕ) (tints : List Tint) (tint : Tint) (row : List ℕ) (change : Change) (best least : List ℕ) (n : ℕ)
+    → length tints ≡ turn → StandsFor rate tints row → 0 < age → age ≤ turn → age ≤ rate → rate ≤ 240 → place ≡ (turn - age) % (rate + 1) → n < 8
+    → LoweredIf (Makes change (tint_in (get_or row (9 * place) 0)) tint) best (get_or row (9 * place + column_of (opposite_of change)) 0) age least
     → IsLatest (Back change (tints ++ tint ∷ []) n (turn + 1 - age) turn) rate turn (get_or best n 0)
     → IsLatest (Back change (tints ++ tint ∷ []) n (turn - age) turn) rate turn (get_or least n 0)
-starts-step rate age turn place column tints tint earlier row change best least n count stands some within near limit at few is_tint is_column lowered =
+starts-step rate age turn place tints tint row change best least n count stands some within near limit at few lowered =
     subst
     (λ t. age ≤ t → place ≡ (t - age) % (rate + 1) → IsLatest (Back change (tints ++ tint ∷ []) n (t + 1 - age) t) rate t (get_or best n 0)
     → IsLatest (Back change (tints ++ tint ∷ []) n (t - age) t) rate t (get_or least n 0))
     count
     (λ inside there before.
     starts-more rate age (length tints + 1 - age) place tints tint row change best least n stands some inside near limit (omega arith) there few
-    (subst (λ (t : Tint). LoweredIf (Makes change t tint) best (get_or row (9 * place + column_of (opposite_of change)) 0) age least) is_tint
-    (subst (λ i. LoweredIf (Makes change earlier tint) best (get_or row (9 * place + i) 0) age least) is_column lowered)) before)
+    lowered before)
     within at
 
 -- at the first of these frames none was looked at, and at the last all that can matter
@@ -387,10 +385,10 @@ row-pushed rate turn tints tint old new words last stands next long there others
 -- a word has the numbers of a change
 pub word-starts : (rate turn : ℕ) (all : List Tint) (change : Change) (starts : List ℕ) (word : ℕ)
     → ((n : ℕ) → n < 8 → IsLatest (EndsWith change all (suc n) turn) rate turn (get_or starts n 0))
-    → ((i : ℕ) → byte word i ≡ get_or starts i 0) → (n : ℕ) → n ≤ 8 → IsLatest (EndsWith change all n turn) rate turn (number_of word n)
+    → ((i : ℕ) → i < 8 → byte word i ≡ get_or starts i 0) → (n : ℕ) → n ≤ 8 → IsLatest (EndsWith change all n turn) rate turn (number_of word n)
 word-starts rate turn all change starts word are is zero few = latest-self rate turn
 word-starts rate turn all change starts word are is (suc n) few =
-    subst (IsLatest (EndsWith change all (suc n) turn) rate turn) (sym (is n)) (are n (omega arith))
+    subst (IsLatest (EndsWith change all (suc n) turn) rate turn) (sym (is n (omega arith))) (are n (omega arith))
 
 -- the words of the eight changes
 pub record ChangeWords : Type 0 where

@@ -1,5 +1,7 @@
 pub mod Chains
 pub mod Counting
+pub mod Lanes
+pub mod Made
 pub mod Pushing
 pub mod Rows
 pub mod Runs

@@ -1,7 +1,6 @@
 // The changes between two tints of which chains are made.
 ghost use Rattle.std.specs.Prelude.{◌≡◌, ◌<◌, ◌↔◌, IsTrue, length};
 ghost use Rattle.flash_count.specs.Counting.{Makes, MakesAt};
-ghost use Rattle.flash_count.specs.Rows.{column_of, opposite_of};
 
 use page_model::Tint;
 use red_chroma::{into_possible, into_sure, out_possible, out_sure};
@@ -19,18 +18,6 @@ pub(crate) enum Change {
     SurelyIntoRed,
     SurelyOutOfRed,
 }
-
-/// All of them, in the order of their words.
-pub(crate) const ALL: [Change; 8] = [
-    Change::PossibleRise,
-    Change::PossibleFall,
-    Change::SureRise,
-    Change::SureFall,
-    Change::PossiblyIntoRed,
-    Change::PossiblyOutOfRed,
-    Change::SurelyIntoRed,
-    Change::SurelyOutOfRed,
-];
 
 /// Two opposing changes, and which of them comes first.
 #[derive(Clone, Copy)]
@@ -65,39 +52,6 @@ pub(crate) const SURE_RED: Opposing = Opposing {
 };
 
 impl Change {
-    /// The change that is opposed to it.
-    pub(crate) fn opposite(self) -> Change
-        ensures { result ≡ opposite_of self }
-    {
-        match self {
-            Change::PossibleRise => Change::PossibleFall,
-            Change::PossibleFall => Change::PossibleRise,
-            Change::SureRise => Change::SureFall,
-            Change::SureFall => Change::SureRise,
-            Change::PossiblyIntoRed => Change::PossiblyOutOfRed,
-            Change::PossiblyOutOfRed => Change::PossiblyIntoRed,
-            Change::SurelyIntoRed => Change::SurelyOutOfRed,
-            Change::SurelyOutOfRed => Change::SurelyIntoRed,
-        }
-    }
-
-    /// The place of its word among the nine words of a frame.
-    pub(crate) fn column(self) -> usize
-        ensures value { result ≡ column_of self }
-        ensures small { result < 9 }
-    {
-        match self {
-            Change::PossibleRise => 1,
-            Change::PossibleFall => 2,
-            Change::SureRise => 3,
-            Change::SureFall => 4,
-            Change::PossiblyIntoRed => 5,
-            Change::PossiblyOutOfRed => 6,
-            Change::SurelyIntoRed => 7,
-            Change::SurelyOutOfRed => 8,
-        }
-    }
-
     /// Whether two tints make the change.
     pub(crate) fn is_made(self, from: Tint, to: Tint) -> bool
         ensures { IsTrue result ↔ Makes self from to }

@@ -16,6 +16,9 @@
 
 mod changes;
 mod counting;
+mod lanes;
+mod latest;
+mod made;
 mod next;
 mod rows;
 mod starts;

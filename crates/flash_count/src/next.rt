@@ -2,10 +2,10 @@
 ghost use Rattle.std.specs.Prelude.{◌≡◌, ◌+◌, ◌*◌, ◌≤◌, false, true, length, min};
 ghost use Rattle.flash_count.specs.Pushing.{IsEndedAfter, TellAfter};
 
-use crate::changes::Change;
-use crate::starts::{last_place, starts_of};
+use crate::latest::Latest;
+use crate::starts::{last_place, latest_starts};
 use crate::still::{is_still, later, words_kept};
-use crate::words::{bytes_of, first_word, word_of};
+use crate::words::{bytes_of, first_word};
 use page_model::Tint;
 
 /// Where the latest chains of eight changes start that ended before the next frame.
@@ -44,40 +44,40 @@ fn least(before: u8, rise: u8, fall: u8, into: u8, out: u8) -> u8
     before.min(rise).min(fall).min(into).min(out)
 }
 
-/// The words of the next frame, by looking back on all frames of the window.
+/// The words of the next frame, by looking back on the frames of the window.
 fn words_after(row: &[u64], rate: u16, turn: u32, tint: Tint) -> [u64; 9]
     requires some { 1 ≤ rate }
     requires limit { rate ≤ 240 }
     requires room { 9 * (rate + 1) ≤ length row.now }
     ensures { TellAfter rate row.now turn tint result }
 {
-    let rise = starts_of(row, rate, turn, tint, Change::PossibleRise);
-    let fall = starts_of(row, rate, turn, tint, Change::PossibleFall);
-    let sure_rise = starts_of(row, rate, turn, tint, Change::SureRise);
-    let sure_fall = starts_of(row, rate, turn, tint, Change::SureFall);
-    let into = starts_of(row, rate, turn, tint, Change::PossiblyIntoRed);
-    let out = starts_of(row, rate, turn, tint, Change::PossiblyOutOfRed);
-    let sure_into = starts_of(row, rate, turn, tint, Change::SurelyIntoRed);
-    let sure_out = starts_of(row, rate, turn, tint, Change::SurelyOutOfRed);
+    let latest = latest_starts(row, rate, turn, tint);
     let ended = chains_before(row, rate, turn);
-    let possible = least(ended.possible, rise[7], fall[7], into[7], out[7]);
+    let Latest { light, red } = latest;
+    let possible = least(
+        ended.possible,
+        light.up.last(),
+        light.down.last(),
+        red.up.last(),
+        red.down.last(),
+    );
     let sure = least(
         ended.sure,
-        sure_rise[7],
-        sure_fall[7],
-        sure_into[7],
-        sure_out[7],
+        light.surely_up.last(),
+        light.surely_down.last(),
+        red.surely_up.last(),
+        red.surely_down.last(),
     );
     [
         first_word(tint, possible, sure),
-        word_of(rise),
-        word_of(fall),
-        word_of(sure_rise),
-        word_of(sure_fall),
-        word_of(into),
-        word_of(out),
-        word_of(sure_into),
-        word_of(sure_out),
+        light.up.word(),
+        light.down.word(),
+        light.surely_up.word(),
+        light.surely_down.word(),
+        red.up.word(),
+        red.down.word(),
+        red.surely_up.word(),
+        red.surely_down.word(),
     ]
 }
 

@@ -5,7 +5,7 @@ ghost use Rattle.flash_count.specs.Counting.{Makes};
 ghost use Rattle.flash_count.specs.Pushing.{IsStill, TellAfter};
 ghost use Rattle.flash_count.specs.Rows.{byte};
 
-use crate::changes::ALL;
+use crate::made::{are_none, is_single, made_by_light, made_by_red, next_tint};
 use crate::starts::last_place;
 use crate::words::{bytes_of, first_word, tint_of, word_of};
 use page_model::Tint;
@@ -22,12 +22,13 @@ pub(crate) fn later(number: u8, rate: u16) -> u8
 fn changes_nothing(tint: Tint) -> bool
     ensures { IsTrue result ↔ ((change : Change) → Makes change tint tint → ⊥) }
 {
-    for place in 0..8 {
-        if ALL[place].is_made(tint, tint) {
-            return false;
-        }
+    if is_single(tint) {
+        return true;
     }
-    true
+    let next = next_tint(tint);
+    let light = made_by_light(tint, &next);
+    let red = made_by_red(tint, tint);
+    are_none(light, red)
 }
 
 /// Whether two tints are the same.

@@ -1,10 +1,11 @@
 // Possible and sure changes into and out of red, between two tints.
-ghost use Rattle.std.specs.Prelude.{◌↔◌, IsTrue};
+ghost use Rattle.std.specs.Prelude.{◌≡◌, ◌↔◌, IsTrue, false};
 ghost use Rattle.page_model.specs.Change.{AreFarBy, IsPossiblyRed, IsSurelyRed, IsSingle, greatest_gap, least_gap};
 ghost use Rattle.page_model.specs.Change.{IsPossiblyIntoRed, IsPossiblyOutOfRed, IsSurelyIntoRed, IsSurelyOutOfRed};
 
-use crate::distance::{far_possible, far_sure};
+use crate::distance::{far_possible, far_sure, how_far};
 use crate::saturation::{has_saturated, saturated};
+use crate::types::RedChanges;
 use page_model::Tint;
 
 /// Whether some colour of the first tint changes to a saturated red of the second that is far from it. Where one of the
@@ -39,6 +40,71 @@ pub fn out_sure(from: Tint, to: Tint) -> bool
     ensures { IsTrue result ↔ IsSurelyOutOfRed from to }
 {
     is_sure(from, to, from)
+}
+
+/// All four at once. Of two single colours the coordinates are looked at once, and only where one of them is saturated.
+pub fn red_changes(from: Tint, to: Tint) -> RedChanges
+    ensures into_possible { IsTrue result.into_possible ↔ IsPossiblyIntoRed from to }
+    ensures out_possible { IsTrue result.out_possible ↔ IsPossiblyOutOfRed from to }
+    ensures into_sure { IsTrue result.into_sure ↔ IsSurelyIntoRed from to }
+    ensures out_sure { IsTrue result.out_sure ↔ IsSurelyOutOfRed from to }
+{
+    if are_single(from, to) {
+        return colour_changes(from, to);
+    }
+    RedChanges {
+        into_possible: has_saturated(to),
+        out_possible: has_saturated(from),
+        into_sure: false,
+        out_sure: false,
+    }
+}
+
+/// No change into or out of red.
+const UNCHANGED: RedChanges = RedChanges {
+    into_possible: false,
+    out_possible: false,
+    into_sure: false,
+    out_sure: false,
+};
+
+/// The red changes between two single colours.
+fn colour_changes(from: Tint, to: Tint) -> RedChanges
+    requires first { IsSingle from }
+    requires second { IsSingle to }
+    ensures into_possible { IsTrue result.into_possible ↔ IsPossiblyIntoRed from to }
+    ensures out_possible { IsTrue result.out_possible ↔ IsPossiblyOutOfRed from to }
+    ensures into_sure { IsTrue result.into_sure ↔ IsSurelyIntoRed from to }
+    ensures out_sure { IsTrue result.out_sure ↔ IsSurelyOutOfRed from to }
+{
+    let out = saturated(from.lo);
+    let into = saturated(to.lo);
+    if neither(out, into) {
+        return UNCHANGED;
+    }
+    let far = how_far(from.lo, to.lo);
+    RedChanges {
+        into_possible: both(into, far.possible),
+        out_possible: both(out, far.possible),
+        into_sure: both(into, far.sure),
+        out_sure: both(out, far.sure),
+    }
+}
+
+/// Whether two facts hold.
+#[inline]
+fn both(one: bool, other: bool) -> bool
+    ensures { IsTrue result ↔ (IsTrue one × IsTrue other) }
+{
+    one && other
+}
+
+/// Whether two facts fail.
+#[inline]
+fn neither(one: bool, other: bool) -> bool
+    ensures { IsTrue result ↔ ((one ≡ false) × (other ≡ false)) }
+{
+    !one && !other
 }
 
 /// Whether a red change is possible between two tints, where `red` has to be saturated.

@@ -29,6 +29,29 @@ pub(crate) fn far_sure(a: Rgb, b: Rgb) -> bool
     is_far(least_size(first.u, second.u), least_size(first.v, second.v))
 }
 
+/// Whether two colours may be more than 0.2 apart, and whether they surely are.
+#[derive(Clone, Copy)]
+pub(crate) struct Farness {
+    pub(crate) possible: bool,
+    pub(crate) sure: bool,
+}
+
+/// Both by one look at the coordinates.
+pub(crate) fn how_far(a: Rgb, b: Rgb) -> Farness
+    ensures possible { IsTrue result.possible ↔ AreFarBy greatest_gap (chromaticity_of a) (chromaticity_of b) }
+    ensures sure { IsTrue result.sure ↔ AreFarBy least_gap (chromaticity_of a) (chromaticity_of b) }
+{
+    let first = chroma(a);
+    let second = chroma(b);
+    Farness {
+        possible: is_far(
+            greatest_size(first.u, second.u),
+            greatest_size(first.v, second.v),
+        ),
+        sure: is_far(least_size(first.u, second.u), least_size(first.v, second.v)),
+    }
+}
+
 /// Whether a point that lies so many parts of 2^40 along each axis is more than 0.2 away.
 fn is_far(u: u64, v: u64) -> bool
     requires first { u ≤ 2 ^ 42 }

@@ -7,7 +7,7 @@
 //! distance of two colours lies between a least and a greatest one: a change between two single colours is possible by the
 //! greatest and sure by the least. Where a tint isn't a single colour no red change is sure, and one is possible where the
 //! tint that has to be saturated has a saturated corner. Saturation is tested first: it costs three entries of a table.
-//! The key clauses are those of the four tests, each exactly the definition's.
+//! `red_changes` makes the four tests at once. The key clauses are those of the tests, each exactly the definition's.
 //!
 //! It doesn't say how wide an enclosure is beside the distance that is looked for: laws of changes do.
 #![tactic(auto)]
@@ -18,6 +18,6 @@ mod distance;
 mod saturation;
 pub mod types;
 
-pub use change::{into_possible, into_sure, out_possible, out_sure};
+pub use change::{into_possible, into_sure, out_possible, out_sure, red_changes};
 pub use coordinates::chroma;
-pub use saturation::saturated;
+pub use saturation::{has_saturated, saturated};

@@ -19,7 +19,7 @@ pub fn saturated(c: Rgb) -> bool
 
 /// Whether some corner of a tint is a saturated red: then the one is that has most red and least of the rest.
 #[inline]
-pub(crate) fn has_saturated(tint: Tint) -> bool
+pub fn has_saturated(tint: Tint) -> bool
     ensures { IsTrue result ↔ HasSaturated tint }
 {
     saturated(Rgb {
