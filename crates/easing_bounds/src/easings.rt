@@ -16,6 +16,7 @@ use page_model::Easing;
 /// an input strictly between 0 and 1 the ends of its own interval. Each end is less than 2^-16 away from the value.
 ///
 /// CSS Easing Functions Level 1, without a before flag.
+#[inline(always)]
 pub fn eased(easing: &Easing, x: Frac) -> Eased
     requires limits { IsEasing easing.now }
     requires share { IsShare x }
@@ -35,6 +36,7 @@ pub fn eased(easing: &Easing, x: Frac) -> Eased
 }
 
 /// A curve's value: the input at 0 and 1, and the own interval between them.
+#[inline(always)]
 fn curved(x1: u16, y1: i16, x2: u16, y2: i16, x: Frac) -> Eased
     requires limits { IsCurve x1 y1 x2 y2 }
     requires share { IsShare x }

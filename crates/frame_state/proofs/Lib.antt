@@ -1,5 +1,6 @@
 pub mod CourseLemmas
 pub mod EndLemmas
+pub mod FoundLemmas
 pub mod ListLemmas
 pub mod NamedLemmas
 pub mod PlainLemmas

@@ -1,6 +1,6 @@
 -- The state of a layer by the ways of its properties: it is the own kind's, in the ranges of its slots, and the exact one where no
 -- easing is a curve.
-use Rattle.std.proofs.Common.{◌≡◌, ◌⊎◌, ℕ, ◌<◌, ◌-◌, ℤ, pos, ◌≤ℤ◌, Bool, true, false, List, Option, Some, None, filter_map, get_or, length, min, slice_get, option_map, if◌then◌else◌, arith, refl, sym, ap, ◌∙◌, subst, inl, inr}
+use Rattle.std.proofs.Common.{◌≡◌, ◌⊎◌, ℕ, ◌<◌, ◌-◌, ℤ, pos, ◌≤ℤ◌, Bool, true, false, List, Option, Some, None, filter_map, get_or, length, min, slice_get, if◌then◌else◌, arith, refl, sym, ap, ◌∙◌, subst, inl, inr}
 use Rattle.std.proofs.lemmas.Int.{ints, clamps}
 use Rattle.std.proofs.lemmas.Option.{get_or_from_slice_get, slice_get-get_or}
 use Rattle.page_model.specs.declared.animation.Anim.{Anim}
@@ -13,7 +13,7 @@ use Rattle.page_model.specs.declared.property.Value.{Value}
 use Rattle.page_model.specs.declared.scene.Layer.{Layer}
 use Rattle.page_model.specs.declared.scene.Scene.{Scene}
 use Rattle.page_model.specs.declared.setup.Setup.{Setup}
-use Rattle.page_model.specs.Enclosure.{IsLooseChannelOn, IsLooseOn, IsLooseStateAt, IsSurelyShownOn, IsSurelyShownWith, Loose, LooseState, Sureness, maybe, one_value, own, surely, surely_not}
+use Rattle.page_model.specs.Enclosure.{IsLooseChannelOn, IsLooseOn, IsLooseStateAt, IsSurelyShownOn, IsSurelyShownWith, Loose, Sureness, maybe, one_value, own, surely, surely_not}
 use Rattle.page_model.specs.Fraction.{Fraction, zero_of_one}
 use Rattle.page_model.specs.Keyframes.{Interval, last_of}
 use Rattle.page_model.specs.LayerAt.{Course, still, moving, State, alpha_of, blue_of, course_by, course_of, cover_of, declared, green_of, interval_at, is_held, length_of, red_of, visible_of}
@@ -29,47 +29,16 @@ use Rattle.keyframe_sets.specs.Here.{interval_here}
 use Rattle.slot_values.specs.Channels.{channel_left, eight_bits, is_gone_at, level_at}
 use Rattle.slot_values.specs.Ends.{AreEnds, End, nothing_made}
 use Rattle.slot_values.specs.Slots.{IsInSlot, loose_of, value_at}
-use Rattle.frame_state.specs.declared.way.Ways.{Ways}
 use Rattle.frame_state.specs.Scenes.{is_cubic}
 use Rattle.frame_state.specs.States.{IsInSlots, known, state_by, sure_of, sure_with}
-use Rattle.frame_state.specs.Ways.{AreWays, Way, channel_by, chosen, eased_way, greatest_of, hides_at, least_of, level_by, shown_by, unless_hidden, value_by, way_in, way_of}
+use Rattle.frame_state.specs.Ways.{Way, channel_by, eased_way, greatest_of, hides_at, least_of, level_by, shown_by, unless_hidden, value_by, way_of}
 use Rattle.slot_values.proofs.ChannelLemmas.{channel-small, loose_channel-is}
 use Rattle.frame_state.proofs.CourseLemmas.{cases_Option, interval_at-none, interval_at-some}
 use Rattle.frame_state.proofs.EndLemmas.{ends-are}
+use Rattle.frame_state.proofs.FoundLemmas.{course_way}
 use Rattle.frame_state.proofs.PlainLemmas.{All-filter_map, All-slice_get, interval-limits, interval-part, interval-straight}
 use Rattle.slot_values.proofs.RoundingLemmas.{in_slot, loose-is}
 use Rattle.frame_state.proofs.ShownLemmas.{shown-is}
-
--- the way by what was found is that of the course
-chosen-is : (held : Bool) (base : Value) (found : Option Interval)
-    → chosen held base (option_map eased_way found) ≡ way_of (if held then still base else course_by base found)
-chosen-is true base found = refl
-chosen-is false base None = refl
-chosen-is false base (Some interval) = refl
-
-pub way-is : (scene : Scene) (setup : Setup) (frame : ℕ) (layer : Layer) (ways : Ways) → AreWays scene setup frame layer layer.anims ways
-    → (prop : Prop) → way_in layer ways prop ≡ way_of (course_of scene setup frame layer prop)
-way-is scene setup frame layer ways found prop =
-    ap (chosen (is_held layer.important prop) (declared layer prop)) (found prop)
-    ∙ chosen-is (is_held layer.important prop) (declared layer prop)
-    (last_of (filter_map (interval_at scene.sets setup frame prop (declared layer prop)) layer.anims))
-
--- the ways of a layer's courses
-abbrev pub course_way : Scene → Setup → ℕ → Layer → Prop → Way
-course_way scene setup frame layer prop = way_of (course_of scene setup frame layer prop)
-
-state_by-same : (layer : Layer) (f g : Prop → Way) → ((prop : Prop) → f prop ≡ g prop) → state_by layer f ≡ state_by layer g
-state_by-same layer f g same = ap (state_by layer) (λ i prop. same prop i)
-
--- a layer's state, by the ways of the animations of the layer that was read
-pub layer-is : (scene : Scene) (setup : Setup) (frame : ℕ) (layer element : Layer) (anims : List Anim) (ways : Ways) (state : LooseState)
-    → element ≡ layer → anims ≡ element.anims → AreWays scene setup frame layer anims ways → state ≡ state_by element (way_in element ways)
-    → state ≡ state_by layer (course_way scene setup frame layer)
-layer-is scene setup frame layer element anims ways state same mine found is =
-    let mine' : anims ≡ layer.anims = mine ∙ ap (λ (l : Layer). l.anims) same in
-    is ∙ ap (λ (l : Layer). state_by l (way_in l ways)) same
-    ∙ state_by-same layer (way_in layer ways) (course_way scene setup frame layer)
-    (way-is scene setup frame layer ways (subst (λ (xs : List Anim). AreWays scene setup frame layer xs ways) mine' found))
 
 -- the layer that is read at a place
 pub read-is : (layers xs : List Layer) (number : ℕ) (layer element : Layer) → element ≡ get_or xs number element → xs ≡ layers

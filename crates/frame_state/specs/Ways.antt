@@ -1,17 +1,16 @@
 -- A property on its way: from one value to another, with so much of the way made as is known of an eased value, which is between two
 -- ends. A value that stays is on its way to itself, so each course is a way; whether it moves is told beside, since a channel that stays
 -- is the colour's own.
-use Rattle.std.specs.Prelude.{ℕ, ℤ, pos, Bool, true, false, Option, None, Some, ◌≡◌, ◌^◌, int_le, List, filter_map, option_map, if◌then◌else◌}
+use Rattle.std.specs.Prelude.{ℕ, ℤ, pos, Bool, true, false, Option, ◌^◌, int_le, List, filter_map, option_map, if◌then◌else◌}
 use Rattle.page_model.specs.declared.animation.Anim.{Anim}
 use Rattle.page_model.specs.declared.property.Prop.{Prop}
-use Rattle.page_model.specs.declared.property.Prop.TheVariants.{Background, Opacity, Visibility, Left, Top, Width, Height}
 use Rattle.page_model.specs.declared.property.Value.{Value}
 use Rattle.page_model.specs.declared.scene.Layer.{Layer}
 use Rattle.page_model.specs.declared.scene.Scene.{Scene}
 use Rattle.page_model.specs.declared.setup.Setup.{Setup}
 use Rattle.page_model.specs.Enclosure.{Loose, Sureness, maybe, one_value, surely, surely_not}
 use Rattle.page_model.specs.Keyframes.{Interval, last_of}
-use Rattle.page_model.specs.LayerAt.{Course, still, moving, declared, interval_at, is_held, visible_of}
+use Rattle.page_model.specs.LayerAt.{Course, still, moving, declared, interval_at, visible_of}
 use Rattle.page_model.specs.Slot.{Shade, Slot, own_level}
 use Rattle.fix_span.specs.Frac.{fraction_of}
 use Rattle.keyframe_sets.specs.declared.types.Interval.{Interval as Found}
@@ -21,10 +20,7 @@ use Rattle.easing_bounds.specs.Value.{eased_value}
 use Rattle.slot_values.specs.Channels.{channel_between}
 use Rattle.slot_values.specs.Ends.{End, end_of, nothing_made}
 use Rattle.slot_values.specs.Slots.{slot_between}
-use Rattle.frame_state.specs.declared.way.Course.{Course as Taken}
-use Rattle.frame_state.specs.declared.way.Course.TheVariants.{Stays, Moves}
 use Rattle.frame_state.specs.declared.way.Way.{Way as Made}
-use Rattle.frame_state.specs.declared.way.Ways.{Ways}
 
 -- an end of a curve's value
 abbrev pub curve_end : ℤ → End
@@ -105,38 +101,7 @@ interval_as interval = record {
 abbrev pub way_as : Made → Way
 way_as way = record { from = way.from; to = way.to; least = end_of way.least; greatest = end_of way.greatest; moves = true }
 
-abbrev pub course_as : Taken → Way
-course_as (Stays x) = stays x
-course_as (Moves way) = way_as way
-
--- the way of each property by the animations of a layer that were looked at, where one of them has an effect and names it
-abbrev pub way_found : Ways → Prop → Option Way
-way_found ways Background = option_map way_as ways.background
-way_found ways Opacity = option_map way_as ways.opacity
-way_found ways Visibility = option_map way_as ways.visibility
-way_found ways Left = option_map way_as ways.left
-way_found ways Top = option_map way_as ways.top
-way_found ways Width = option_map way_as ways.width
-way_found ways Height = option_map way_as ways.height
-
 -- the way by the last of some animations that has an effect and names the property
 abbrev pub last_way : Scene → Setup → ℕ → Layer → List Anim → Prop → Option Way
 last_way scene setup frame layer anims prop =
     option_map eased_way (last_of (filter_map (interval_at scene.sets setup frame prop (declared layer prop)) anims))
-
-abbrev pub AreWays : Scene → Setup → ℕ → Layer → List Anim → Ways → Type 0
-AreWays scene setup frame layer anims ways = (prop : Prop) → way_found ways prop ≡ last_way scene setup frame layer anims prop
-
--- the later of two ways
-abbrev pub later : Option Way → Option Way → Option Way
-later before None = before
-later before (Some way) = Some way
-
--- the way by what was found: none where the winning declaration is important, or where nothing was found
-abbrev pub chosen : Bool → Value → Option Way → Way
-chosen true own found = stays own
-chosen false own None = stays own
-chosen false own (Some way) = way
-
-abbrev pub way_in : Layer → Ways → Prop → Way
-way_in layer ways prop = chosen (is_held layer.important prop) (declared layer prop) (way_found ways prop)

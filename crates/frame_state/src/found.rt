@@ -1,5 +1,5 @@
-// The parts of a state: on the way that was found for their property, or where it stays.
-ghost use Rattle.std.specs.Prelude.{◌≡◌, ◌<◌, option_map};
+// The parts of a state: on a way that was found for their property, or where it stays.
+ghost use Rattle.std.specs.Prelude.{◌≡◌, ◌<◌};
 ghost use Rattle.page_model.specs.Enclosure.{one_value};
 ghost use Rattle.page_model.specs.LayerAt as definition;
 ghost use Rattle.page_model.specs.Slot as slots;
@@ -7,31 +7,17 @@ ghost use Rattle.slot_values.specs.Channels.{shade_as};
 ghost use Rattle.slot_values.specs.Ends.{end_of, IsEnd};
 ghost use Rattle.slot_values.specs.Slots.{loose_as, slot_as};
 ghost use Rattle.frame_state.specs.Alpha.{HasAlpha};
-ghost use Rattle.frame_state.specs.States.{sureness_of, sure_with};
+ghost use Rattle.frame_state.specs.Found.{fill_as, fill_by};
+ghost use Rattle.frame_state.specs.States.{sureness_of};
 ghost use Rattle.frame_state.specs.Ways as ways;
-ghost use Rattle.frame_state.specs.Ways.{channel_by, chosen, course_as, stays, value_by, way_as};
+ghost use Rattle.frame_state.specs.Ways.{channel_by, stays, value_by, way_as};
 
 use crate::parts::{alpha_of, blue_of, cover_of, green_of, length_of, red_of, visible_of};
 use crate::types::Shown;
-use crate::way::{Course, Way};
+use crate::way::Way;
 use fix_span::{Frac, Loose};
-use page_model::{Rgba, Value};
+use page_model::Value;
 use slot_values::{ALPHA, COVER, Shade, Slot, channel_on, slot_value, still};
-
-/// What a property does: by the way that was found, if there is one and its declaration isn't important, and else it
-/// stays at its own value.
-pub fn course_of(held: bool, own: Value, found: &Option<Way>) -> Course
-    ensures course { course_as result ≡ chosen held own (option_map way_as found.now) }
-    ensures alpha { HasAlpha own → HasAlpha (course_as result).from }
-{
-    if held {
-        return Course::Stays(own);
-    }
-    match *found {
-        Some(way) => Course::Moves(way),
-        None => Course::Stays(own),
-    }
-}
 
 /// Whether a box is hidden between two visibilities, at an end.
 fn hides_at(from: bool, to: bool, end: Frac) -> bool
@@ -47,7 +33,7 @@ fn hides_at(from: bool, to: bool, end: Frac) -> bool
 }
 
 /// How surely a box is shown on a way.
-fn shown_on(way: Way) -> Shown
+pub fn shown_on(way: Way) -> Shown
     ensures { sureness_of result ≡ ways.shown_by (way_as way) }
 {
     let from = visible_of(way.from);
@@ -63,33 +49,13 @@ fn shown_on(way: Way) -> Shown
 }
 
 /// How surely a box is shown that stays visible or hidden.
-fn shown_still(own: Value) -> Shown
+pub fn shown_still(own: Value) -> Shown
     ensures { sureness_of result ≡ ways.shown_by (stays own) }
 {
     if visible_of(own) {
         Shown::Yes
     } else {
         Shown::No
-    }
-}
-
-/// How surely a box is shown.
-fn shown_by(course: Course) -> Shown
-    ensures { sureness_of result ≡ ways.shown_by (course_as course) }
-{
-    match course {
-        Course::Stays(own) => shown_still(own),
-        Course::Moves(way) => shown_on(way),
-    }
-}
-
-/// How surely a box with a colour, or without one, is shown.
-pub fn shown_with(colour: Option<Rgba>, course: Course) -> Shown
-    ensures { sureness_of result ≡ sure_with colour (course_as course) }
-{
-    match colour {
-        Some(_) => shown_by(course),
-        None => Shown::No,
     }
 }
 
@@ -126,7 +92,7 @@ fn cover_on(way: Way) -> Loose
 }
 
 /// The alpha on a way.
-fn alpha_on(way: Way) -> Loose
+pub fn alpha_on(way: Way) -> Loose
     ensures { loose_as result ≡ value_by slots.alpha definition.alpha_of (way_as way) }
 {
     let from = alpha_of(way.from);
@@ -134,7 +100,8 @@ fn alpha_on(way: Way) -> Loose
 }
 
 /// A length on a way, in whole pixels.
-fn pixels_on(slot: Slot, way: Way) -> Loose
+#[inline(always)]
+pub fn pixels_on(slot: Slot, way: Way) -> Loose
     requires { 0 < slot.unit }
     ensures { loose_as result ≡ value_by (slot_as slot) definition.length_of (way_as way) }
 {
@@ -163,12 +130,9 @@ fn level_still(own: Shade) -> Loose
 }
 
 /// The colour of a box where it stays.
-fn fill_still(own: Value) -> Fill
+pub fn fill_still(own: Value) -> Fill
     requires { HasAlpha own }
-    ensures red { loose_as result.r ≡ channel_by definition.red_of (stays own) }
-    ensures green { loose_as result.g ≡ channel_by definition.green_of (stays own) }
-    ensures blue { loose_as result.b ≡ channel_by definition.blue_of (stays own) }
-    ensures cover { loose_as result.cover ≡ value_by slots.cover definition.cover_of (stays own) }
+    ensures { fill_as result ≡ fill_by (stays own) }
 {
     Fill {
         r: level_still(red_of(own)),
@@ -179,11 +143,8 @@ fn fill_still(own: Value) -> Fill
 }
 
 /// The colour of a box on a way.
-fn fill_on(way: Way) -> Fill
-    ensures red { loose_as result.r ≡ channel_by definition.red_of (way_as way) }
-    ensures green { loose_as result.g ≡ channel_by definition.green_of (way_as way) }
-    ensures blue { loose_as result.b ≡ channel_by definition.blue_of (way_as way) }
-    ensures cover { loose_as result.cover ≡ value_by slots.cover definition.cover_of (way_as way) }
+pub fn fill_on(way: Way) -> Fill
+    ensures { fill_as result ≡ fill_by (way_as way) }
 {
     Fill {
         r: red_on(way),
@@ -193,52 +154,17 @@ fn fill_on(way: Way) -> Fill
     }
 }
 
-/// The colour of a box.
-pub fn fill_by(course: Course) -> Fill
-    requires { HasAlpha (course_as course).from }
-    ensures red { loose_as result.r ≡ channel_by definition.red_of (course_as course) }
-    ensures green { loose_as result.g ≡ channel_by definition.green_of (course_as course) }
-    ensures blue { loose_as result.b ≡ channel_by definition.blue_of (course_as course) }
-    ensures cover { loose_as result.cover ≡ value_by slots.cover definition.cover_of (course_as course) }
-{
-    match course {
-        Course::Stays(own) => fill_still(own),
-        Course::Moves(way) => fill_on(way),
-    }
-}
-
 /// The alpha of an opacity that stays.
-fn alpha_still(own: Value) -> Loose
+pub fn alpha_still(own: Value) -> Loose
     ensures { loose_as result ≡ value_by slots.alpha definition.alpha_of (stays own) }
 {
     still(ALPHA, alpha_of(own))
 }
 
-/// The alpha of a box's opacity.
-pub fn alpha_by(course: Course) -> Loose
-    ensures { loose_as result ≡ value_by slots.alpha definition.alpha_of (course_as course) }
-{
-    match course {
-        Course::Stays(own) => alpha_still(own),
-        Course::Moves(way) => alpha_on(way),
-    }
-}
-
 /// A length that stays, in whole pixels.
-fn pixels_still(slot: Slot, own: Value) -> Loose
+pub fn pixels_still(slot: Slot, own: Value) -> Loose
     requires { 0 < slot.unit }
     ensures { loose_as result ≡ value_by (slot_as slot) definition.length_of (stays own) }
 {
     still(slot, length_of(own))
-}
-
-/// A length of a box, in whole pixels.
-pub fn pixels_by(slot: Slot, course: Course) -> Loose
-    requires { 0 < slot.unit }
-    ensures { loose_as result ≡ value_by (slot_as slot) definition.length_of (course_as course) }
-{
-    match course {
-        Course::Stays(own) => pixels_still(slot, own),
-        Course::Moves(way) => pixels_on(slot, way),
-    }
 }

@@ -5,51 +5,34 @@ ghost use Rattle.page_model.specs.Enclosure.{own, wide, IsLooseStateAt, LooseSta
 ghost use Rattle.page_model.specs.LayerAt as definition;
 ghost use Rattle.page_model.specs.ValidScene.{IsColour, IsValid};
 ghost use Rattle.tint_laws.specs.TintLaws.{LooseStateWithin, StateWithin};
+ghost use Rattle.frame_state.specs.Found.{state_found};
+ghost use Rattle.frame_state.specs.Places.{place_as, IsOwnPlace, IsPlaceInSlots};
 ghost use Rattle.frame_state.specs.Scenes.{is_cubic};
-ghost use Rattle.frame_state.specs.States.{state_as, states_as, state_by, known, IsInSlots, AreOwn, AreExact, AreInSlots};
-ghost use Rattle.frame_state.specs.Ways.{way_in};
+ghost use Rattle.frame_state.specs.States.{state_as, states_as, known, IsInSlots, AreOwn, AreExact, AreInSlots};
 
-use crate::found::{alpha_by, course_of, fill_by, pixels_by, shown_with};
-use crate::types::LayerState;
-use crate::way::Ways;
-use crate::ways::ways_at;
-use keyframe_sets::declared;
-use page_model::{Layer, Prop, Scene, Setup};
-use slot_values::{EXTENT, POSITION};
+use crate::place::{alpha_of, fill_of, place_of, shown_of};
+use crate::search::{Found, found_at};
+use crate::types::{LayerState, Place};
+use page_model::{Layer, Scene, Setup};
 
-/// The state of a layer, by what animations make of its properties.
-fn state_of(layer: &Layer, ways: &Ways) -> LayerState
+/// The state of a layer, by what was found of its properties.
+fn state_of(layer: &Layer, found: &Found) -> LayerState
     requires { IfSome layer.now.colour IsColour }
-    ensures { state_as result ≡ state_by layer.now (way_in layer.now ways.now) }
+    ensures { state_as result ≡ state_found layer.now found.now.edges found.now.look }
 {
-    let held = layer.important;
-    let background = course_of(
-        held.background,
-        declared(layer, Prop::Background),
-        &ways.background,
-    );
-    let opacity = course_of(held.opacity, declared(layer, Prop::Opacity), &ways.opacity);
-    let visibility = course_of(
-        held.visibility,
-        declared(layer, Prop::Visibility),
-        &ways.visibility,
-    );
-    let left = course_of(held.left, declared(layer, Prop::Left), &ways.left);
-    let top = course_of(held.top, declared(layer, Prop::Top), &ways.top);
-    let width = course_of(held.width, declared(layer, Prop::Width), &ways.width);
-    let height = course_of(held.height, declared(layer, Prop::Height), &ways.height);
-    let fill = fill_by(background);
+    let fill = fill_of(layer, &found.look);
+    let place = place_of(layer, &found.edges);
     LayerState {
-        shown: shown_with(layer.colour, visibility),
+        shown: shown_of(layer, &found.look),
         r: fill.r,
         g: fill.g,
         b: fill.b,
         cover: fill.cover,
-        alpha: alpha_by(opacity),
-        left: pixels_by(POSITION, left),
-        top: pixels_by(POSITION, top),
-        width: pixels_by(EXTENT, width),
-        height: pixels_by(EXTENT, height),
+        alpha: alpha_of(layer, &found.look),
+        left: place.left,
+        top: place.top,
+        width: place.width,
+        height: place.height,
     }
 }
 
@@ -76,8 +59,23 @@ pub fn layer_at(scene: &Scene, setup: &Setup, k: u64, layer: u16) -> LayerState
     ensures ranges { IsInSlots (state_as result) }
 {
     let element = &scene.layers.as_slice()[layer as usize];
-    let ways = ways_at(scene, setup, k, layer, element.anims.as_slice());
-    state_of(element, &ways)
+    let found = found_at(scene, setup, k, layer, element.anims.as_slice(), true);
+    state_of(element, &found)
+}
+
+/// Where a layer is in frame `k`: the four slots of its state that tell its box, and nothing else of it. An animation
+/// that changes none of them costs next to nothing here.
+pub fn place_at(scene: &Scene, setup: &Setup, k: u64, layer: u16) -> Place
+    requires valid { IsValid scene.now }
+    requires there { layer < length scene.now.layers }
+    requires frame { k < 2 ^ 32 }
+    ensures own { (l : Element) → slice_get scene.now.layers layer ≡ Some l
+        → IsOwnPlace scene.now setup.now k l (place_as result) }
+    ensures ranges { IsPlaceInSlots (place_as result) }
+{
+    let element = &scene.layers.as_slice()[layer as usize];
+    let found = found_at(scene, setup, k, layer, element.anims.as_slice(), false);
+    place_of(element, &found.edges)
 }
 
 /// The states of all layers in frame `k`, by number.

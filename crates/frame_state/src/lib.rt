@@ -18,9 +18,11 @@ mod found;
 mod layers;
 mod named;
 mod parts;
+mod place;
+mod search;
 mod types;
 mod way;
 mod ways;
 
-pub use layers::{layer_at, states_at};
-pub use types::{LayerState, Shown};
+pub use layers::{layer_at, place_at, states_at};
+pub use types::{LayerState, Place, Shown};

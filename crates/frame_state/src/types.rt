@@ -1,4 +1,4 @@
-// The state of a layer.
+// The state of a layer, and where it is.
 use fix_span::Loose;
 
 /// Whether a layer is shown: surely, surely not, or perhaps, where no more is known.
@@ -19,6 +19,15 @@ pub struct LayerState {
     pub b: Loose,
     pub cover: Loose,
     pub alpha: Loose,
+    pub left: Loose,
+    pub top: Loose,
+    pub width: Loose,
+    pub height: Loose,
+}
+
+/// Where a layer is in a frame, each number between its ends: its box in whole pixels.
+#[derive(Clone, Copy, Debug, PartialEq, Eq)]
+pub struct Place {
     pub left: Loose,
     pub top: Loose,
     pub width: Loose,

@@ -18,23 +18,3 @@ pub struct Way {
     pub ghost least_end: { IsEnd least },
     pub ghost greatest_end: { IsEnd greatest },
 }
-
-/// What a property does in a frame. One that stays isn't on a way to itself: its colour is kept where it is
-/// transparent.
-#[derive(Clone, Copy)]
-pub enum Course {
-    Stays(Value),
-    Moves(Way),
-}
-
-/// The way of each property that an animation changes.
-#[derive(Clone, Copy)]
-pub struct Ways {
-    pub background: Option<Way>,
-    pub opacity: Option<Way>,
-    pub visibility: Option<Way>,
-    pub left: Option<Way>,
-    pub top: Option<Way>,
-    pub width: Option<Way>,
-    pub height: Option<Way>,
-}

@@ -17,6 +17,7 @@ use fix_span::Frac;
 use page_model::{Easing, Keyframe, Prop, Scene, Value};
 
 /// How far a progress is from one offset to a later one.
+#[inline(always)]
 fn distance(from: u16, to: u16, at: Share) -> Frac
     requires rising { from < to }
     requires inside { to ≤ 10000 }
@@ -33,6 +34,7 @@ fn distance(from: u16, to: u16, at: Share) -> Frac
 }
 
 /// The way from a stop that is reached to one ahead.
+#[inline(always)]
 fn between(easing: Easing, at: Share, first: Stop, second: Stop) -> Interval
     requires reached { definition.is_reached (share_as at) (stop_as first) ≡ true }
     requires ahead { definition.is_reached (share_as at) (stop_as second) ≡ false }
@@ -51,6 +53,7 @@ fn between(easing: Easing, at: Share, first: Stop, second: Stop) -> Interval
 }
 
 /// The last stop that is reached: where there is none, the element's own value at 0%.
+#[inline(always)]
 fn first_stop(around: Around, own: Value, at: Share) -> Stop
     requires { AreApart (share_as at) around }
     ensures value { stop_as result ≡ unwrap_or (option_map stop_as around.reached) (start own) }
@@ -67,6 +70,7 @@ fn first_stop(around: Around, own: Value, at: Share) -> Stop
 }
 
 /// The first stop that isn't reached: where there is none, the element's own value at 100%.
+#[inline(always)]
 fn second_stop(around: Around, own: Value, at: Share) -> Stop
     requires { AreApart (share_as at) around }
     ensures value { stop_as result ≡ unwrap_or (option_map stop_as around.ahead) (finish own) }
@@ -84,6 +88,7 @@ fn second_stop(around: Around, own: Value, at: Share) -> Stop
 }
 
 /// The interval of a property in a set, or none where the set doesn't name it.
+#[inline(always)]
 pub fn interval_in_set(
     frames: &[Keyframe],
     prop: Prop,
@@ -112,6 +117,7 @@ pub fn interval_in_set(
 /// layer or animation. The distance is from 0 to 1, and its denominator at most 10,000 times the progress's.
 ///
 /// CSS Animations Level 1, "Keyframes": a value that is missing at 0% or 100% is the element's own.
+#[inline(always)]
 pub fn interval(
     scene: &Scene,
     layer: u16,

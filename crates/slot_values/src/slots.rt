@@ -75,6 +75,7 @@ fn parts_of(slot: Slot, end: Frac) -> i128
 }
 
 /// The value of a slot at an end: rounded half up, and held in the range.
+#[inline(always)]
 fn value_at(slot: Slot, from: i32, to: i32, end: Frac) -> i32
     requires unit { 0 < slot.unit }
     requires end { IsEnd end }
@@ -92,6 +93,7 @@ pub fn are_same(first: Frac, second: Frac) -> bool
 }
 
 /// The value of a slot that stays at a number: that of a way of which nothing is made.
+#[inline(always)]
 pub fn still(slot: Slot, own: i32) -> Loose
     requires { 0 < slot.unit }
     ensures { loose_as result
@@ -105,6 +107,7 @@ pub fn still(slot: Slot, own: i32) -> Loose
 }
 
 /// The value of a slot at two ends, the lesser first.
+#[inline(always)]
 fn slot_at_ends(slot: Slot, from: i32, to: i32, least: Frac, greatest: Frac) -> Loose
     requires unit { 0 < slot.unit }
     requires least { IsEnd least }
@@ -124,6 +127,7 @@ fn slot_at_ends(slot: Slot, from: i32, to: i32, least: Frac, greatest: Frac) -> 
 
 /// The value of a slot on the way from one number to another, between its values at two ends: rounded half up, and
 /// held in the slot's range.
+#[inline(always)]
 pub fn slot_value(slot: Slot, from: i32, to: i32, least: Frac, greatest: Frac) -> Loose
     requires unit { 0 < slot.unit }
     requires least { IsEnd least }
