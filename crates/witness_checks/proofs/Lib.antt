@@ -1,7 +1,9 @@
+mod EvenLemmas
 pub mod FirstLemmas
 pub mod JudgementLemmas
 mod KeptLemmas
 pub mod OneLemmas
+mod OrderLemmas
 pub mod OverlapLemmas
 mod TintLemmas
 pub mod TurnLemmas

@@ -1,8 +1,7 @@
 -- Tints by two sets of states of the own kind are the same, and so are the first pixels that haven't a tint.
-use Rattle.std.proofs.Common.{◌≡◌, ◌∙◌, ℕ, ◌<◌, ◌≤◌, ◌+◌, List, [], ◌∷◌, length, get_or, Option, None, Some, if◌then◌else◌, ap, arith, refl, subst, sym, inl, inr}
-use Rattle.std.specs.Prelude.{All, fold, is_some, slice_get, MatchOption}
+use Rattle.std.proofs.Common.{◌≡◌, ◌∙◌, ℕ, ◌<◌, ◌≤◌, ◌+◌, List, [], length, get_or, Option, None, Some, ap, arith, subst, sym, inl, inr}
+use Rattle.std.specs.Prelude.{All, slice_get, MatchOption}
 use Rattle.std.proofs.lemmas.Bool.{cases_eq}
-use Rattle.std.proofs.lemmas.List.Elements.{All-head, All-tail, All-contains_itself}
 use Rattle.std.proofs.lemmas.Option.{get_or_from_slice_get, same_Some, slice_get-get_or, slice_get_cases, slice_get_within}
 use Rattle.page_model.specs.declared.colour.Tint.{Tint}
 use Rattle.page_model.specs.declared.scene.Scene.{Scene}
@@ -10,15 +9,12 @@ use Rattle.page_model.specs.declared.setup.Setup.{Setup}
 use Rattle.page_model.specs.declared.witness.Kind.TheVariants.{General}
 use Rattle.page_model.specs.declared.witness.Part.{Part}
 use Rattle.page_model.specs.declared.witness.Witness.{Witness}
-use Rattle.page_model.specs.Colour.{body_colour}
 use Rattle.page_model.specs.Enclosure.{LooseRun, LooseState, own}
-use Rattle.page_model.specs.Red.{white}
-use Rattle.page_model.specs.TintOf.{IsLooseRunIn, full_alpha, single, tint_box, tint_ground, tint_of, tint_over}
+use Rattle.page_model.specs.TintOf.{IsLooseRunIn, tint_of}
 use Rattle.page_model.specs.ValidScene.{IsValid}
 use Rattle.page_model.specs.Time.{window_of}
 use Rattle.page_model.specs.WitnessConditions.{HasTints, LiesInside}
 use Rattle.frame_state.specs.States.{AreOwn}
-use Rattle.paint_blend.specs.Paint.{box_over}
 use Rattle.tint_laws.proofs.AlikeLemmas.{tint-same}
 use Rattle.wide_laws.proofs.LooseLemmas.{loose_state-unique}
 use Rattle.witness_checks.specs.Faults.{HaveTintsBefore, IsFirstWrongPixel, IsFirstWrongTint, IsTimed, LiesInWindow}

@@ -1,12 +1,11 @@
 -- Why a witness is not accepted: the first of the nine conditions that fails, and the first place where it fails. Each condition is
 -- tested over all parts before the next one.
-use Rattle.std.specs.Prelude.{ℕ, ◌≡◌, ◌⊎◌, ◌+◌, ◌*◌, ◌<◌, ◌≤◌, Bool, false, All, List, slice_get, Some, sum_by, take}
+use Rattle.std.specs.Prelude.{ℕ, ◌≡◌, ◌⊎◌, ◌+◌, ◌*◌, ◌<◌, ◌≤◌, All, List, slice_get, Some, sum_by, take}
 use Rattle.std.specs.List.Sorted.{IsStrictlyIncreasing}
 use Rattle.page_model.specs.declared.colour.Tint.{Tint}
 use Rattle.page_model.specs.declared.scene.Scene.{Scene}
 use Rattle.page_model.specs.declared.setup.Setup.{Setup}
 use Rattle.page_model.specs.declared.witness.Kind.{Kind}
-use Rattle.page_model.specs.declared.witness.Kind.TheVariants.{General, Red}
 use Rattle.page_model.specs.declared.witness.Part.{Part}
 use Rattle.page_model.specs.declared.witness.Witness.{Witness}
 use Rattle.page_model.specs.Enclosure.{LooseRun, own}

@@ -1,3 +1,4 @@
+pub mod Even
 pub mod Faults
 pub mod Judgement
 pub mod Kept

@@ -1,5 +1,5 @@
 -- Where parts lie: along one side, and beside each other.
-use Rattle.std.specs.Prelude.{ℕ, ℤ, pos, ◌≡◌, ◌+◌, ◌<◌, ◌≤◌, ◌≤ℤ◌, ◌+ℤ◌, List, length, slice_get, Some}
+use Rattle.std.specs.Prelude.{ℕ, ℤ, pos, ◌≡◌, ◌⊎◌, ◌+◌, ◌<◌, ◌≤◌, ◌≤ℤ◌, ◌+ℤ◌, List, length, slice_get, Some}
 use Rattle.page_model.specs.declared.witness.Part.{Part}
 use Rattle.witness_checks.specs.Faults.{ShareAPixel}
 
@@ -36,3 +36,18 @@ pub record IsNextOverlap (parts : List Part) (first second : ℕ) : Type 0 where
   pub at_second : slice_get parts second ≡ Some other
   pub shared : ShareAPixel one other
   pub before : IsApartFrom parts first second
+
+-- two parts have the same rows, and the columns of one end before those of the other begin
+pub record IsLeftOf (one other : Part) : Type 0 where
+  pub same_top : one.y ≡ other.y
+  pub same_height : one.height ≡ other.height
+  pub columns : one.x + one.width ≤ other.x
+
+-- row by row, a part comes before another: its rows end before those of the other begin, or it stands left of it
+abbrev pub ComesBefore : Part → Part → Type 0
+ComesBefore one other = (one.y + one.height ≤ other.y) ⊎ IsLeftOf one other
+
+-- of the parts before a place, each comes before those behind it
+abbrev pub AreInOrder : List Part → ℕ → Type 0
+AreInOrder parts end =
+    (i j : ℕ) (a b : Part) → i < j → j < end → slice_get parts i ≡ Some a → slice_get parts j ≡ Some b → ComesBefore a b

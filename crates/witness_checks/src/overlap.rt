@@ -1,7 +1,7 @@
 // Which two parts share a pixel.
 ghost use Rattle.std.specs.Prelude.{◌↔◌, ◌^◌, ◌<◌, IsTrue, MatchOption, length};
 ghost use Rattle.witness_checks.specs.Faults.{IsFirstOverlap, ShareAPixel};
-ghost use Rattle.witness_checks.specs.Places.{AreApartBefore, IsApartFrom, IsNextOverlap, ShareAPlace};
+ghost use Rattle.witness_checks.specs.Places.{AreApartBefore, ComesBefore, IsApartFrom, IsNextOverlap, ShareAPlace};
 
 use page_model::Part;
 
@@ -45,8 +45,8 @@ fn next_overlap(parts: &[Part], first: usize) -> Option<u32>
     None
 }
 
-/// The first two parts that share a pixel.
-pub(crate) fn overlap(parts: &[Part]) -> Option<Pair>
+/// The first two parts that share a pixel, by a look at all pairs.
+fn first_overlap(parts: &[Part]) -> Option<Pair>
     requires { length parts.now < 2 ^ 32 }
     ensures { MatchOption result (AreApartBefore parts.now (length parts.now)) (λ pair. IsFirstOverlap parts.now pair.first pair.second) }
 {
@@ -59,4 +59,40 @@ pub(crate) fn overlap(parts: &[Part]) -> Option<Pair>
         }
     }
     None
+}
+
+/// Whether a part comes before another, row by row: it ends above the other one, or it has the same rows and ends at its left.
+fn comes_before(one: &Part, other: &Part) -> bool
+    ensures { IsTrue result ↔ ComesBefore one.now other.now }
+{
+    if u32::from(one.y) + u32::from(one.height) <= u32::from(other.y) {
+        return true;
+    }
+    if one.y != other.y || one.height != other.height {
+        return false;
+    }
+    u32::from(one.x) + u32::from(one.width) <= u32::from(other.x)
+}
+
+/// Whether the parts stand row by row, each before the next one, so that no two share a pixel. The cells of a grid do.
+fn stand_in_order(parts: &[Part]) -> bool
+    ensures { IsTrue result → AreApartBefore parts.now (length parts.now) }
+{
+    for next in 1..parts.len() {
+        if !comes_before(&parts[next - 1], &parts[next]) {
+            return false;
+        }
+    }
+    true
+}
+
+/// The first two parts that share a pixel. All pairs are looked at only where the parts don't stand in order.
+pub(crate) fn overlap(parts: &[Part]) -> Option<Pair>
+    requires { length parts.now < 2 ^ 32 }
+    ensures { MatchOption result (AreApartBefore parts.now (length parts.now)) (λ pair. IsFirstOverlap parts.now pair.first pair.second) }
+{
+    if stand_in_order(parts) {
+        return None;
+    }
+    first_overlap(parts)
 }

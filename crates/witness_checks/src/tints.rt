@@ -1,6 +1,6 @@
-// Whether a part's pixels have the stated tints: each pixel is painted in each turn, by states that are kept where the next part tells
-// the same frames.
-ghost use Rattle.std.specs.Prelude.{ℕ, ◌≡◌, ◌^◌, ◌+◌, ◌<◌, length, All, MatchOption};
+// Whether a part's pixels have the stated tints. In each turn the first pixel is painted, and the others too where a box's edge cuts
+// the part, by states that are kept where the next part tells the same frames.
+ghost use Rattle.std.specs.Prelude.{ℕ, ◌≡◌, ◌^◌, ◌+◌, ◌<◌, length, All, IsTrue, MatchOption};
 ghost use Rattle.page_model.specs.Enclosure.{LooseRun, LooseState};
 ghost use Rattle.page_model.specs.TintOf.{tint_of as tint_by, tints_of};
 ghost use Rattle.page_model.specs.ValidScene.{IsValid};
@@ -11,6 +11,7 @@ ghost use Rattle.witness_checks.specs.Faults.{HoldsOwnTints, IsTimed, IsWrongTin
 ghost use Rattle.witness_checks.specs.Kept.{IsKept};
 ghost use Rattle.witness_checks.specs.OwnTints.{AllHaveTint, IsFirstWrongColumn, IsFirstWrongOf, IsFirstWrongTurn, IsOwnIn, RowHasTint};
 
+use crate::even::are_painted_evenly;
 use crate::kept::{KeptStates, NO_STATES};
 use frame_state::LayerState;
 use page_model::{Part, Scene, Setup, Tint, Witness};
@@ -83,6 +84,38 @@ fn wrong_in_rows(scene: &Scene, states: &[LayerState], part: &Part, tint: Tint) 
     None
 }
 
+/// Whether all pixels of a part have a tint because the first one has it, and all boxes are painted as surely at each of them.
+fn has_tint_evenly(scene: &Scene, states: &[LayerState], part: &Part, tint: Tint) -> bool
+    requires valid { IsValid scene.now }
+    requires states { length states.now ≡ length scene.now.layers }
+    requires ready { AreReady scene.now (states_as states.now) }
+    ensures { IsTrue result → AllHaveTint (tint_by scene.now (states_as states.now)) part.now tint }
+{
+    if !are_painted_evenly(states, part) {
+        return false;
+    }
+    if tint_of(scene, states, part.x, part.y) != tint {
+        return false;
+    }
+    true
+}
+
+/// The first pixel of a part that hasn't a tint, by the states of the layers. Each pixel is painted only where one can't speak for all.
+fn wrong_by_states(scene: &Scene, states: &[LayerState], part: &Part, tint: Tint) -> Option<Pixel>
+    requires valid { IsValid scene.now }
+    requires states { length states.now ≡ length scene.now.layers }
+    requires ready { AreReady scene.now (states_as states.now) }
+    requires columns { part.now.x + part.now.width < 2 ^ 16 }
+    requires rows { part.now.y + part.now.height < 2 ^ 16 }
+    ensures { MatchOption result (AllHaveTint (tint_by scene.now (states_as states.now)) part.now tint)
+        (λ pixel. IsFirstWrongOf (tint_by scene.now (states_as states.now)) part.now tint pixel.x pixel.y) }
+{
+    if has_tint_evenly(scene, states, part, tint) {
+        return None;
+    }
+    wrong_in_rows(scene, states, part, tint)
+}
+
 /// The first pixel of a part that hasn't a tint in a frame, whose states are kept from then on.
 fn wrong_in_frame(
     scene: &Scene,
@@ -104,7 +137,7 @@ fn wrong_in_frame(
         → IsFirstWrongOf (tint_by scene.now states) part.now tint pixel.x pixel.y) }
 {
     kept.see(scene, setup, frame);
-    wrong_in_rows(scene, kept.states(scene), part, tint)
+    wrong_by_states(scene, kept.states(scene), part, tint)
 }
 
 /// The first turn of a part in which a pixel hasn't the stated tint, and the first such pixel. States are kept by turn.

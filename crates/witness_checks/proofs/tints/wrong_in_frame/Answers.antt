@@ -8,8 +8,8 @@ use Rattle.witness_checks.specs.OwnTints.{AllHaveTint, IsFirstWrongOf}
 use Rattle.witness_checks.proofs.TintLemmas.{all-same, first_wrong-same, matched, own-tint-same}
 use Rattle.witness_checks.proofs.tints.wrong_in_frame.Goals as goal
 
-pub wrong_in_rows-requires-clause-ready : goal.wrong_in_rows-requires-clause-ready
-wrong_in_rows-requires-clause-ready c =
+pub wrong_by_states-requires-clause-ready : goal.wrong_by_states-requires-clause-ready
+wrong_by_states-requires-clause-ready c =
     let kept : AreStatesIn c.args.scene.now c.args.setup.now c.args.frame c.states.result.now =
     subst (AreStatesIn c.args.scene.now c.args.setup.now c.args.frame) (sym c.states.ensures.value) (c.see.ensures.kept c.args.frame c.see.ensures.frame) in
     kept.ready
@@ -20,13 +20,13 @@ returns-clause-wrong c =
     subst (AreStatesIn c.args.scene.now c.args.setup.now c.args.frame) (sym c.states.ensures.value) (c.see.ensures.kept c.args.frame c.see.ensures.frame) in
     let written : ℕ → LooseState = states_as c.states.result.now in
     let same = own-tint-same c.args.scene.now c.args.setup.now c.args.frame written in
-    matched c.wrong_in_rows.result (AllHaveTint (tint_of c.args.scene.now written) c.args.part.now c.args.tint)
+    matched c.wrong_by_states.result (AllHaveTint (tint_of c.args.scene.now written) c.args.part.now c.args.tint)
     ((states : ℕ → LooseState) → AreOwn c.args.scene.now c.args.setup.now c.args.frame states
     → AllHaveTint (tint_of c.args.scene.now states) c.args.part.now c.args.tint)
     (λ pixel. IsFirstWrongOf (tint_of c.args.scene.now written) c.args.part.now c.args.tint pixel.x pixel.y)
     (λ pixel. (states : ℕ → LooseState) → AreOwn c.args.scene.now c.args.setup.now c.args.frame states
     → IsFirstWrongOf (tint_of c.args.scene.now states) c.args.part.now c.args.tint pixel.x pixel.y)
-    c.wrong_in_rows.ensures
+    c.wrong_by_states.ensures
     (λ have states are.
     all-same (tint_of c.args.scene.now written) (tint_of c.args.scene.now states) c.args.part.now c.args.tint
     (same states c.requires.valid kept.own_states are) have)

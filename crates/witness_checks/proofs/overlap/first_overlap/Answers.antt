@@ -1,7 +1,7 @@
 -- One more part that is apart from those behind it, and the first that isn't.
 use Rattle.std.proofs.Common.{arith}
 use Rattle.witness_checks.proofs.OverlapLemmas.{apart-all, apart-more, first-overlap}
-use Rattle.witness_checks.proofs.overlap.overlap.Goals as goal
+use Rattle.witness_checks.proofs.overlap.first_overlap.Goals as goal
 
 pub returns-in-Some : goal.returns-in-Some
 returns-in-Some c = first-overlap c.args.parts.now c.loop-first.first c.in-Some.second c.loop-first.invariant c.in-Some.ensures
