@@ -2,10 +2,11 @@
 use Rattle.std.proofs.Common.{ℕ, ℤ, pos, Bool, true, false, ◌≡◌, ◌⊎◌, ◌+ℤ◌, ◌≤ℤ◌, ◌<ℤ◌, int_le, int_lt, arith, inl, inr, refl, sym}
 use Rattle.std.specs.Prelude.{◌||◌}
 use Rattle.std.proofs.lemmas.Int.{ints, by_lt_z}
-use Rattle.page_model.specs.Enclosure.{Loose, LooseState, Sureness, maybe, surely, surely_not}
-use Rattle.page_model.specs.TintOf.{both, covers_surely, spans_surely}
+use Rattle.page_model.specs.Enclosure.{Loose, Sureness, maybe, surely, surely_not}
+use Rattle.page_model.specs.TintOf.{both, spans_surely}
+use Rattle.frame_state.specs.Places.{LoosePlace}
 use Rattle.cell_groups.specs.declared.homes.Area.{Area}
-use Rattle.cell_groups.specs.Homes.{is_outside}
+use Rattle.cell_groups.specs.Homes.{is_outside, place_covers}
 
 lt-yes : (x y : ℤ) → x <ℤ y → int_lt x y ≡ true
 lt-yes x y h = let e : true ≡ int_lt x y = omega (arith, ints) in sym e
@@ -72,12 +73,12 @@ outside-both outer inner column row reaches is =
       | downwards most ↦ downwards (omega (arith, ints, most, bottom))
     ])
 
--- so does an area that holds a box of a state
-pub record HoldsBox (area : Area) (state : LooseState) : Type 0 where
-  pub left : area.left ≤ℤ state.left.lo
-  pub right : (state.left.hi +ℤ state.width.hi) ≤ℤ area.right
-  pub top : area.top ≤ℤ state.top.lo
-  pub bottom : (state.top.hi +ℤ state.height.hi) ≤ℤ area.bottom
+-- so does an area that holds a box in a place
+pub record HoldsBox (area : Area) (place : LoosePlace) : Type 0 where
+  pub left : area.left ≤ℤ place.left.lo
+  pub right : (place.left.hi +ℤ place.width.hi) ≤ℤ area.right
+  pub top : area.top ≤ℤ place.top.lo
+  pub bottom : (place.top.hi +ℤ place.height.hi) ≤ℤ area.bottom
 
 before-not : (from extent : Loose) (at : ℕ) → pos at <ℤ from.lo → spans_surely from extent at ≡ surely_not
 before-not from extent at less = rw (lt-yes (pos at) from.lo less) refl
@@ -99,18 +100,18 @@ second-not surely_not b is = refl
 second-not maybe b is = rw is refl
 
 -- and a box doesn't cover what lies outside
-pub outside-not : (area : Area) (state : LooseState) (column row : ℕ) → HoldsBox area state → is_outside area column row ≡ true
-    → covers_surely state column row ≡ surely_not
-outside-not area state column row holds is =
+pub outside-not : (area : Area) (place : LoosePlace) (column row : ℕ) → HoldsBox area place → is_outside area column row ≡ true
+    → place_covers place column row ≡ surely_not
+outside-not area place column row holds is =
     let left = holds.left in
     let right = holds.right in
     let top = holds.top in
     let bottom = holds.bottom in
-    let across : Sureness = spans_surely state.left state.width column in
-    let down : Sureness = spans_surely state.top state.height row in
+    let across : Sureness = spans_surely place.left place.width column in
+    let down : Sureness = spans_surely place.top place.height row in
     elim (from_outside area column row is) [
-      | leftwards less ↦ first-not across down (before-not state.left state.width column (omega (arith, ints, less, left)))
-      | rightwards most ↦ first-not across down (behind-not state.left state.width column (omega (arith, ints, most, right)))
-      | upwards less ↦ second-not across down (before-not state.top state.height row (omega (arith, ints, less, top)))
-      | downwards most ↦ second-not across down (behind-not state.top state.height row (omega (arith, ints, most, bottom)))
+      | leftwards less ↦ first-not across down (before-not place.left place.width column (omega (arith, ints, less, left)))
+      | rightwards most ↦ first-not across down (behind-not place.left place.width column (omega (arith, ints, most, right)))
+      | upwards less ↦ second-not across down (before-not place.top place.height row (omega (arith, ints, less, top)))
+      | downwards most ↦ second-not across down (behind-not place.top place.height row (omega (arith, ints, most, bottom)))
     ]

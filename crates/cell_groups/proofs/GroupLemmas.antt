@@ -10,19 +10,20 @@ use Rattle.page_model.specs.declared.scene.Scene.{Scene}
 use Rattle.page_model.specs.declared.setup.Setup.{Setup}
 use Rattle.page_model.specs.Enclosure.{LooseState}
 use Rattle.page_model.specs.TintOf.{covers_surely}
+use Rattle.frame_state.specs.Places.{LoosePlace, place_in}
 use Rattle.region_split.specs.Cutting.{Edges, cell_of}
 use Rattle.cell_groups.specs.declared.homes.Home.{Home}
 use Rattle.cell_groups.specs.declared.homes.Home.TheVariants.{Fixed, Within}
 use Rattle.cell_groups.specs.Adding.{AddsCell, IsNeighbour}
 use Rattle.cell_groups.specs.Groups.{AreCoveredAlike, AreGroupsBefore, Grouping, LookAlike, first_of, group_of}
-use Rattle.cell_groups.specs.Homes.{AreHomes, IsAtHome, TellAlike, TellsAlike}
+use Rattle.cell_groups.specs.Homes.{AreHomes, IsAtHome, TellAlike, TellsAlike, place_covers}
 
 -- what a home tells of a box that is at home
-home-alike : (state : LooseState) (home : Home) (column row other_column other_row : ℕ) → IsAtHome state home
-    → TellsAlike home column row other_column other_row → covers_surely state column row ≡ covers_surely state other_column other_row
-home-alike state (Fixed across down) column row other_column other_row at told =
+home-alike : (place : LoosePlace) (home : Home) (column row other_column other_row : ℕ) → IsAtHome place home
+    → TellsAlike home column row other_column other_row → place_covers place column row ≡ place_covers place other_column other_row
+home-alike place (Fixed across down) column row other_column other_row at told =
     at column row ∙ told ∙ sym (at other_column other_row)
-home-alike state (Within area) column row other_column other_row at told =
+home-alike place (Within area) column row other_column other_row at told =
     at column row told.0 ∙ sym (at other_column other_row told.1)
 
 -- so what all homes tell is so of all boxes
@@ -35,7 +36,7 @@ told-alike scene setup frames homes column row other_column other_row are told n
     let known : number < length scene.layers = slice_get_within scene.layers number layer there in
     let within : n < length homes = omega (arith, are.one_each, known, some) in
     let home : Home = get_or homes n (Within (record { left = pos 0; right = pos 0; top = pos 0; bottom = pos 0 })) in
-    home-alike state home column row other_column other_row
+    home-alike (place_in state) home column row other_column other_row
     (are.each n layer home (subst (λ k. slice_get scene.layers k ≡ Some layer) (sym next) there) (slice_get-get_or homes n _ within)
     frame state before is)
     (All-get_or (λ h. TellsAlike h column row other_column other_row) homes n _ within told)

@@ -1,17 +1,8 @@
--- Homes of boxes, and of one box more.
-use Rattle.std.proofs.Common.{ℕ, ◌≡◌, ◌∙◌, refl}
+-- Two states that have a layer in one place.
+use Rattle.std.proofs.Common.{◌≡◌}
 use Rattle.page_model.specs.Enclosure.{LooseState}
-use Rattle.page_model.specs.TintOf.{covers_surely}
+use Rattle.frame_state.specs.Places.{place_in}
 use Rattle.region_split.specs.Moving.{AreInOnePlace}
-use Rattle.cell_groups.specs.declared.homes.Home.{Home}
-use Rattle.cell_groups.specs.declared.homes.Home.TheVariants.{Fixed, Within}
-use Rattle.cell_groups.specs.Homes.{IsAtHome}
 
--- two states in one place cover alike
-covers-same : (state again : LooseState) (column row : ℕ) → AreInOnePlace state again
-    → covers_surely state column row ≡ covers_surely again column row
-covers-same state again column row same = rw (same.left, same.width, same.top, same.height) refl
-
-pub home-still : (state again : LooseState) (home : Home) → AreInOnePlace state again → IsAtHome again home → IsAtHome state home
-home-still state again (Fixed across down) same is = λ column row. covers-same state again column row same ∙ is column row
-home-still state again (Within area) same is = λ column row outside. covers-same state again column row same ∙ is column row outside
+pub one-place : (state again : LooseState) → AreInOnePlace state again → place_in state ≡ place_in again
+one-place state again same = λ i. record { left = same.left i; top = same.top i; width = same.width i; height = same.height i }

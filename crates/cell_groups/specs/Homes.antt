@@ -5,7 +5,8 @@ use Rattle.page_model.specs.declared.scene.Scene.{Scene}
 use Rattle.page_model.specs.declared.setup.Setup.{Setup}
 use Rattle.page_model.specs.Cells.{end_of}
 use Rattle.page_model.specs.Enclosure.{IsLooseStateAt, Loose, LooseState, Sureness, maybe, own, surely, surely_not}
-use Rattle.page_model.specs.TintOf.{both, covers_surely}
+use Rattle.page_model.specs.TintOf.{both, spans_surely}
+use Rattle.frame_state.specs.Places.{LoosePlace, place_in}
 use Rattle.frame_state.specs.States.{loose_as}
 use Rattle.cell_groups.specs.declared.homes.Area.{Area}
 use Rattle.cell_groups.specs.declared.homes.Home.{Home}
@@ -41,16 +42,21 @@ is_outside area column row =
 abbrev pub HoldsArea : Area → Area → Type 0
 HoldsArea area other = (column row : ℕ) → is_outside other column row ≡ true → is_outside area column row ≡ true
 
--- a box of this state is at home
-abbrev pub IsAtHome : LooseState → Home → Type 0
-IsAtHome state (Fixed across down) = (column row : ℕ) → covers_surely state column row ≡ covers_by across down column row
-IsAtHome state (Within area) =
-    (column row : ℕ) → is_outside area column row ≡ true → covers_surely state column row ≡ surely_not
+-- how surely a box in a place covers a pixel
+abbrev pub place_covers : LoosePlace → ℕ → ℕ → Sureness
+place_covers place column row = both (spans_surely place.left place.width column) (spans_surely place.top place.height row)
+
+-- a box in this place is at home
+abbrev pub IsAtHome : LoosePlace → Home → Type 0
+IsAtHome place (Fixed across down) = (column row : ℕ) → place_covers place column row ≡ covers_by across down column row
+IsAtHome place (Within area) =
+    (column row : ℕ) → is_outside area column row ≡ true → place_covers place column row ≡ surely_not
 
 -- a box is, in each of so many frames, whatever its states of the own kind are
 abbrev pub IsHomeOf : Scene → Setup → ℕ → Layer → Home → Type 0
 IsHomeOf scene setup frames layer home =
-    (frame : ℕ) (state : LooseState) → frame < frames → IsLooseStateAt own scene setup frame layer state → IsAtHome state home
+    (frame : ℕ) (state : LooseState) → frame < frames → IsLooseStateAt own scene setup frame layer state
+    → IsAtHome (place_in state) home
 
 -- these are the homes of the boxes before a number
 pub record AreHomesBefore (scene : Scene) (setup : Setup) (frames number : ℕ) (homes : List Home) : Type 0 where

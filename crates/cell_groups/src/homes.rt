@@ -3,12 +3,13 @@ ghost use Rattle.std.specs.Prelude.{Some, ◌≡◌, ◌⊎◌, ◌<◌, ◌≤�
 ghost use Rattle.page_model.specs.declared.scene.Layer.{Layer as Element};
 ghost use Rattle.page_model.specs.Slot as slots;
 ghost use Rattle.page_model.specs.ValidScene.{IsValid};
-ghost use Rattle.frame_state.specs.States.{IsInSlot, IsInSlots, loose_as, state_as};
+ghost use Rattle.frame_state.specs.Places.{IsPlaceInSlots, place_as};
+ghost use Rattle.frame_state.specs.States.{IsInSlot, loose_as};
 ghost use Rattle.cell_groups.specs.declared.homes.Home.TheVariants as home;
 ghost use Rattle.cell_groups.specs.Homes.{AreHomes, HoldsArea, IsAtHome, IsHomeOf, IsSideOf};
 
 use fix_span::Loose;
-use frame_state::{LayerState, layer_at};
+use frame_state::{Place, place_at};
 use page_model::{NoMemory, Scene, Setup};
 use region_split::{frames_of, may_move};
 use std::alloc::Global;
@@ -53,14 +54,14 @@ fn side_of(from: Loose, extent: Loose) -> Side
     }
 }
 
-/// The home of a box that stays where this state has it.
-fn fixed_at(state: &LayerState) -> Home
-    requires { IsInSlots (state_as state.now) }
-    ensures { IsAtHome (state_as state.now) result }
+/// The home of a box that stays in this place.
+fn fixed_at(place: Place) -> Home
+    requires { IsPlaceInSlots (place_as place) }
+    ensures { IsAtHome (place_as place) result }
 {
     Home::Fixed {
-        across: side_of(state.left, state.width),
-        down: side_of(state.top, state.height),
+        across: side_of(place.left, place.width),
+        down: side_of(place.top, place.height),
     }
 }
 
@@ -82,14 +83,14 @@ fn greater(one: i32, other: i32) -> i32
     if one < other { other } else { one }
 }
 
-/// An area with all places where a box of this state may be.
-fn grown(area: Area, state: &LayerState) -> Area
-    requires { IsInSlots (state_as state.now) }
-    ensures home { IsAtHome (state_as state.now) (home.Within result) }
+/// An area with all that a box in this place may cover.
+fn grown(area: Area, place: Place) -> Area
+    requires { IsPlaceInSlots (place_as place) }
+    ensures home { IsAtHome (place_as place) (home.Within result) }
     ensures kept { HoldsArea area result }
 {
-    let across = side_of(state.left, state.width);
-    let down = side_of(state.top, state.height);
+    let across = side_of(place.left, place.width);
+    let down = side_of(place.top, place.height);
     Area {
         left: lesser(area.left, across.begin.lo),
         right: greater(area.right, across.end.hi),
@@ -115,7 +116,7 @@ fn area_of(scene: &Scene, setup: &Setup, number: u16, frames: u32) -> Area
 {
     let mut area = NOWHERE;
     for k in 0..frames {
-        area = grown(area, &layer_at(scene, setup, u64::from(k), number));
+        area = grown(area, place_at(scene, setup, u64::from(k), number));
     }
     area
 }
@@ -131,7 +132,7 @@ fn home_of(scene: &Scene, setup: &Setup, number: u16, frames: u32) -> Home
         let enough = frames_of(scene, setup, number, frames);
         return Home::Within(area_of(scene, setup, number, enough));
     }
-    fixed_at(&layer_at(scene, setup, 0, number))
+    fixed_at(place_at(scene, setup, 0, number))
 }
 
 /// How many layers there are.

@@ -1,9 +1,10 @@
 -- One frame more.
-use Rattle.std.proofs.Common.{◌≡◌, arith, inl, inr, subst}
+use Rattle.std.proofs.Common.{◌≡◌, ◌+◌, ◌<◌, arith, inl, inr, subst, sym}
 use Rattle.std.proofs.lemmas.Bool.{cases_lt}
 use Rattle.page_model.specs.Enclosure.{IsLooseStateAt, own}
-use Rattle.frame_state.specs.States.{state_as}
-use Rattle.wide_laws.proofs.LooseLemmas.{loose_state-unique}
+use Rattle.frame_state.specs.Places.{IsOwnPlace, LoosePlace, place_as, place_in}
+use Rattle.cell_groups.specs.declared.homes.Home.TheVariants.{Within}
+use Rattle.cell_groups.specs.Homes.{IsAtHome}
 use Rattle.cell_groups.proofs.homes.area_of.Goals as goal
 
 pub loop-k-preserved : goal.loop-k-preserved
@@ -14,11 +15,10 @@ loop-k-preserved c layer there frame state below is column row outside =
       | inl early ↦ c.loop-k.invariant layer there frame state early is column row (c.grown-area.ensures.kept column row outside)
       | inr late ↦
           let last : frame ≡ c.loop-k.k = omega (arith, below, late) in
-          let own_state : IsLooseStateAt own scene setup c.loop-k.k layer (state_as c.layer_at.result) =
-          rw c.from.ensures at c.layer_at.ensures.own layer there in
-          let same = loose_state-unique own scene setup c.loop-k.k layer state (state_as c.layer_at.result)
-          (subst (λ n. IsLooseStateAt own scene setup n layer state) last is) own_state in
-          rw same (c.grown-area.ensures.home column row outside)
+          let mine : IsOwnPlace scene setup c.loop-k.k layer (place_as c.place_at.result) = rw c.from.ensures at c.place_at.ensures.own layer there in
+          let same : place_as c.place_at.result ≡ place_in state =
+          mine.each state (subst (λ n. IsLooseStateAt own scene setup n layer state) last is) in
+          subst (λ (place : LoosePlace). IsAtHome place (Within c.grown-area.result)) same c.grown-area.ensures.home column row outside
     ]
 
 pub returns : goal.returns

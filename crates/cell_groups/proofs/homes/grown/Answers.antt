@@ -3,7 +3,7 @@ use Rattle.std.proofs.Common.{ℤ, pos, neg_ℤ, ◌≡◌, ◌+ℤ◌, ◌≤�
 use Rattle.std.proofs.lemmas.Int.{ints, to_z-of_z}
 use mir.Syntax.{w32}
 use Rattle.page_model.specs.Enclosure.{Loose}
-use Rattle.frame_state.specs.States.{state_as}
+use Rattle.frame_state.specs.Places.{place_as}
 use Rattle.cell_groups.specs.declared.homes.Area.{Area}
 use Rattle.cell_groups.proofs.AreaLemmas.{HoldsBox, Reaches, outside-both, outside-not}
 use Rattle.cell_groups.proofs.homes.grown.Goals as goal
@@ -50,15 +50,15 @@ returns-clause-kept c column row is =
 
 pub returns-clause-home : goal.returns-clause-home
 returns-clause-home c column row is =
-    let state = state_as c.args.state.now in
+    let place = place_as c.args.place in
     let left = c.requires.left in
     let width = c.requires.width in
     let top = c.requires.top in
     let height = c.requires.height in
-    let begin_across : c.side_of-across.result.begin.lo ≡ state.left.lo = ap (λ (l : Loose). l.lo) c.side_of-across.ensures.begin in
-    let end_across : c.side_of-across.result.end.hi ≡ state.left.hi +ℤ state.width.hi = ap (λ (l : Loose). l.hi) c.side_of-across.ensures.end in
-    let begin_down : c.side_of-down.result.begin.lo ≡ state.top.lo = ap (λ (l : Loose). l.lo) c.side_of-down.ensures.begin in
-    let end_down : c.side_of-down.result.end.hi ≡ state.top.hi +ℤ state.height.hi = ap (λ (l : Loose). l.hi) c.side_of-down.ensures.end in
+    let begin_across : c.side_of-across.result.begin.lo ≡ place.left.lo = ap (λ (l : Loose). l.lo) c.side_of-across.ensures.begin in
+    let end_across : c.side_of-across.result.end.hi ≡ place.left.hi +ℤ place.width.hi = ap (λ (l : Loose). l.hi) c.side_of-across.ensures.end in
+    let begin_down : c.side_of-down.result.begin.lo ≡ place.top.lo = ap (λ (l : Loose). l.lo) c.side_of-down.ensures.begin in
+    let end_down : c.side_of-down.result.end.hi ≡ place.top.hi +ℤ place.height.hi = ap (λ (l : Loose). l.hi) c.side_of-down.ensures.end in
     let fits_left : FitsSigned w32 c.lesser.result = omega (arith, ints, c.lesser.type_inv) in
     let fits_right : FitsSigned w32 c.greater.result = omega (arith, ints, c.greater.type_inv) in
     let fits_top : FitsSigned w32 c.lesser-2.result = omega (arith, ints, c.lesser-2.type_inv) in
@@ -69,16 +69,16 @@ returns-clause-home c column row is =
       top = to_z w32 (of_z w32 c.lesser-2.result);
       bottom = to_z w32 (of_z w32 c.greater-2.result);
     } in
-    let holds : HoldsBox area state = record {
-      left = at-most c.lesser.result state.left.lo fits_left (wider-low state.left.lo left.at_least)
-          (wider-high state.left.lo state.left.hi left.in_order left.at_most) (rw begin_across at c.lesser.ensures.other);
-      right = at-least c.greater.result (state.left.hi +ℤ state.width.hi) fits_right
-          (sum-low state.left.hi state.width.hi state.left.lo state.width.lo left.at_least left.in_order width.at_least width.in_order)
-          (sum-high state.left.hi state.width.hi left.at_most width.at_most) (rw end_across at c.greater.ensures.other);
-      top = at-most c.lesser-2.result state.top.lo fits_top (wider-low state.top.lo top.at_least)
-          (wider-high state.top.lo state.top.hi top.in_order top.at_most) (rw begin_down at c.lesser-2.ensures.other);
-      bottom = at-least c.greater-2.result (state.top.hi +ℤ state.height.hi) fits_bottom
-          (sum-low state.top.hi state.height.hi state.top.lo state.height.lo top.at_least top.in_order height.at_least height.in_order)
-          (sum-high state.top.hi state.height.hi top.at_most height.at_most) (rw end_down at c.greater-2.ensures.other);
+    let holds : HoldsBox area place = record {
+      left = at-most c.lesser.result place.left.lo fits_left (wider-low place.left.lo left.at_least)
+          (wider-high place.left.lo place.left.hi left.in_order left.at_most) (rw begin_across at c.lesser.ensures.other);
+      right = at-least c.greater.result (place.left.hi +ℤ place.width.hi) fits_right
+          (sum-low place.left.hi place.width.hi place.left.lo place.width.lo left.at_least left.in_order width.at_least width.in_order)
+          (sum-high place.left.hi place.width.hi left.at_most width.at_most) (rw end_across at c.greater.ensures.other);
+      top = at-most c.lesser-2.result place.top.lo fits_top (wider-low place.top.lo top.at_least)
+          (wider-high place.top.lo place.top.hi top.in_order top.at_most) (rw begin_down at c.lesser-2.ensures.other);
+      bottom = at-least c.greater-2.result (place.top.hi +ℤ place.height.hi) fits_bottom
+          (sum-low place.top.hi place.height.hi place.top.lo place.height.lo top.at_least top.in_order height.at_least height.in_order)
+          (sum-high place.top.hi place.height.hi top.at_most height.at_most) (rw end_down at c.greater-2.ensures.other);
     } in
-    outside-not area state column row holds is
+    outside-not area place column row holds is

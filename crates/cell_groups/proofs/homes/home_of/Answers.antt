@@ -1,6 +1,8 @@
 -- A box that may not move is where it is in the first frame, and one that repeats does nothing new behind that.
-use Rattle.frame_state.specs.States.{state_as}
-use Rattle.cell_groups.proofs.HomeLemmas.{home-still}
+use Rattle.std.proofs.Common.{◌≡◌, ◌∙◌, subst, sym}
+use Rattle.frame_state.specs.Places.{LoosePlace, place_as, place_in}
+use Rattle.cell_groups.specs.Homes.{IsAtHome}
+use Rattle.cell_groups.proofs.HomeLemmas.{one-place}
 use Rattle.cell_groups.proofs.homes.home_of.Goals as goal
 
 pub returns-then-may_move : goal.returns-then-may_move
@@ -10,7 +12,9 @@ returns-then-may_move c l there frame state below is =
 
 pub returns : goal.returns
 returns c l there frame state below is =
-    home-still state (state_as c.layer_at.result) c.fixed_at.result
-    (c.may_move.ensures.stays l there c.if-may_move.false c.args.setup.now frame 0 state (state_as c.layer_at.result) is
-    (c.layer_at.ensures.own l there))
-    c.fixed_at.ensures
+    let mine = c.place_at.ensures.own l there in
+    let same : place_as c.place_at.result ≡ place_in state =
+    mine.each mine.state mine.is_own
+    ∙ sym (one-place state mine.state
+    (c.may_move.ensures.stays l there c.if-may_move.false c.args.setup.now frame 0 state mine.state is mine.is_own)) in
+    subst (λ (place : LoosePlace). IsAtHome place c.fixed_at.result) same c.fixed_at.ensures
