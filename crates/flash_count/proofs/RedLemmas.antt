@@ -1,6 +1,5 @@
 -- No change of red is made where no corner of either tint is saturated: a tint that has to be saturated has such a corner.
-use Rattle.std.proofs.Common.{ℕ, List, ◌≡◌, Bool, false, true, inl, inr, refl}
-use Rattle.std.specs.Prelude.{IsTrue}
+use Rattle.std.proofs.Common.{ℕ, List, false, inl, inr, refl}
 use Rattle.page_model.specs.declared.colour.Tint.{Tint}
 use Rattle.page_model.specs.Change.{AreFarBy, HasSaturated, IsPossiblyRed, IsSurelyRed, greatest_gap, least_gap}
 use Rattle.page_model.specs.Red.{Chromaticity, IsSaturated}

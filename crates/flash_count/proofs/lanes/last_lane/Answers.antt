@@ -1,5 +1,5 @@
 use Rattle.std.proofs.Common.{ℕ, ◌≡◌, ◌/◌, ◌^◌, ◌<◌, get_or, arith}
-use Rattle.flash_count.specs.Lanes.{AreLanesBelow, lanes_of}
+use Rattle.flash_count.specs.Lanes.{lanes_of}
 use Rattle.flash_count.proofs.lanes.last_lane.Goals as goal
 
 last : (word : ℕ) → word < 2 ^ 64 → word / 281474976710656 ≡ get_or (lanes_of word) 3 0

@@ -1,8 +1,8 @@
 -- Lane by lane.
-use Rattle.std.proofs.Common.{ℕ, zero, suc, ◌≡◌, ◌∙◌, ◌+◌, ◌-◌, ◌/◌, ◌^◌, ◌<◌, ◌≤◌, ◌∷◌, [], List, get_or, arith, ap, sym, refl}
+use Rattle.std.proofs.Common.{ℕ, zero, suc, ◌≡◌, ◌∙◌, ◌+◌, ◌-◌, ◌/◌, ◌^◌, ◌<◌, ◌≤◌, ◌∷◌, [], get_or, arith, ap, refl}
 use Rattle.std.specs.Prelude.{bit_and, min}
 use Rattle.flash_count.specs.Lanes.{AreLanesBelow, IsLesser, lanes_of}
-use Rattle.flash_count.proofs.LaneLemmas.{IsFour, by-lanes, excess-four, four, four-below, is-over, lanes-are, over-four, without-four}
+use Rattle.flash_count.proofs.LaneLemmas.{by-lanes, excess-four, four, four-below, is-over, lanes-are, over-four, without-four}
 use Rattle.flash_count.proofs.lanes.lesser.Goals as goal
 
 abbrev lane : ℕ → ℕ → ℕ

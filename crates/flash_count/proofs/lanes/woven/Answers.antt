@@ -1,6 +1,6 @@
 -- Each lane is a byte, and the odd ones stand in the upper halves.
-use Rattle.std.proofs.Common.{ℕ, zero, suc, ◌≡◌, ◌∙◌, ◌+◌, ◌*◌, ◌%◌, ◌^◌, ◌<◌, ◌∷◌, [], List, get_or, arith, ap, refl, sym}
-use Rattle.flash_count.specs.Lanes.{AreLanesBelow, in_turn, lanes_of}
+use Rattle.std.proofs.Common.{ℕ, zero, suc, ◌≡◌, ◌+◌, ◌*◌, ◌%◌, ◌^◌, ◌<◌, ◌∷◌, [], get_or, arith}
+use Rattle.flash_count.specs.Lanes.{AreLanesBelow, lanes_of}
 use Rattle.flash_count.specs.Rows.{byte}
 use Rattle.flash_count.proofs.LaneLemmas.{FourBelow, by-lanes, four, four-below}
 use Rattle.flash_count.proofs.lanes.woven.Goals as goal

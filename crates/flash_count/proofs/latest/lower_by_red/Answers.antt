@@ -1,5 +1,5 @@
 -- Where neither tint has a saturated corner no change is made.
-use Rattle.std.proofs.Common.{◌≡◌, ◌+◌, ◌*◌, true, get_or, inl, inr, subst}
+use Rattle.std.proofs.Common.{◌≡◌, ◌+◌, ◌*◌, true, inl, inr, subst}
 use Rattle.page_model.specs.declared.colour.Tint.{Tint}
 use Rattle.flash_count.specs.Made.{MadeByRed}
 use Rattle.flash_count.proofs.RedLemmas.{none-made, unmade, unmade-kept}

@@ -1,5 +1,5 @@
 -- The bounds of the next tint, at the light of the earlier one.
-use Rattle.std.proofs.Common.{ℕ, ◌≡◌, ◌<◌, ◌≤◌, ◌+◌, ◌*◌, ◌^◌, rules, subst, sym}
+use Rattle.std.proofs.Common.{ℕ, ◌≡◌, ◌<◌, ◌≤◌, rules, subst, sym}
 use Rattle.std.specs.Prelude.{◌↔◌, IsTrue, nat_le, nat_lt}
 use Rattle.page_model.specs.declared.colour.Rgb.{Rgb}
 use Rattle.page_model.specs.Light.{IsRise, luma_of}

@@ -1,5 +1,5 @@
 -- The bounds are those of the luminances of both ends.
-use Rattle.std.proofs.Common.{ℕ, ◌<◌, ◌≤◌, subst}
+use Rattle.std.proofs.Common.{◌<◌, ◌≤◌, subst}
 use Rattle.std.specs.Prelude.{◌↔◌}
 use Rattle.flash_count.specs.Made.{IsLighter}
 use Rattle.flash_count.proofs.made.next_tint.Goals as goal

@@ -1,6 +1,5 @@
 -- Each lane has the number.
-use Rattle.std.proofs.Common.{ℕ, zero, suc, ◌≡◌, ◌∙◌, ◌*◌, ◌^◌, ◌<◌, ◌∷◌, [], List, get_or, arith, ap, refl}
-use Rattle.flash_count.specs.Lanes.{in_turn, lanes_of}
+use Rattle.std.proofs.Common.{ℕ, zero, suc, ◌≡◌, ◌∙◌, ◌*◌, ◌<◌, ◌∷◌, [], List, get_or, arith, ap, refl}
 use Rattle.flash_count.proofs.LaneLemmas.{IsFour, in_turn-are}
 use Rattle.flash_count.proofs.lanes.Numbers.all.Goals as goal
 

@@ -1,7 +1,7 @@
 -- The even ones and the odd ones.
-use Rattle.std.proofs.Common.{ℕ, zero, suc, ◌≡◌, ◌+◌, ◌*◌, ◌<◌, List, get_or, arith}
+use Rattle.std.proofs.Common.{ℕ, zero, suc, ◌≡◌, ◌<◌, get_or, arith}
 use Rattle.std.specs.Prelude.{min}
-use Rattle.flash_count.specs.Lanes.{AreLanesBelow, IsLesser, in_turn, lanes_of}
+use Rattle.flash_count.specs.Lanes.{IsLesser, in_turn, lanes_of}
 use Rattle.flash_count.proofs.LaneLemmas.{even-below, odd-below}
 use Rattle.flash_count.proofs.lanes.Numbers.least.Goals as goal
 
