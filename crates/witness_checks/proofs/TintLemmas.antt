@@ -1,7 +1,8 @@
 -- Tints by two sets of states of the own kind are the same, and so are the first pixels that haven't a tint.
-use Rattle.std.proofs.Common.{◌≡◌, ◌∙◌, ℕ, ◌<◌, ◌≤◌, ◌+◌, List, [], length, get_or, Option, None, Some, ap, arith, subst, sym, inl, inr}
+use Rattle.std.proofs.Common.{◌≡◌, ◌∙◌, ℕ, ◌<◌, ◌≤◌, ◌+◌, ◌%◌, List, [], length, get_or, Option, None, Some, ap, arith, subst, sym, inl, inr}
 use Rattle.std.specs.Prelude.{All, slice_get, MatchOption}
 use Rattle.std.proofs.lemmas.Bool.{cases_eq}
+use Rattle.std.proofs.lemmas.Nat.{mod_below}
 use Rattle.std.proofs.lemmas.Option.{get_or_from_slice_get, same_Some, slice_get-get_or, slice_get_cases, slice_get_within}
 use Rattle.page_model.specs.declared.colour.Tint.{Tint}
 use Rattle.page_model.specs.declared.scene.Scene.{Scene}
@@ -47,6 +48,13 @@ first_wrong-same seen other part tint column row same first = record {
 pub matched : {X : Type 0} (o : Option X) (P Q : Type 0) (F G : X → Type 0) → MatchOption o P F → (P → Q) → ((x : X) → F x → G x) → MatchOption o Q G
 matched None P Q F G is none some = none is
 matched (Some x) P Q F G is none some = some x is
+
+-- where the states of a turn's frame are kept
+abbrev pub place-of : Part → ℕ → ℕ
+place-of part turn = get_or part.frames turn 0 % 241
+
+pub place-within : (part : Part) (turn count : ℕ) → count ≡ 241 → place-of part turn < count
+place-within part turn count all = omega (arith, all, mod_below (get_or part.frames turn 0) 241 (omega arith))
 
 -- one turn more has its tint
 pub turn-more : (tint_at : ℕ → ℕ → ℕ → Tint) (part : Part) (turn frame : ℕ) (tint : Tint) → slice_get part.frames turn ≡ Some frame

@@ -1,5 +1,5 @@
 // Whether a part's pixels have the stated tints. In each turn the first pixel is painted, and the others too where a box's edge cuts
-// the part, by states that are kept where the next part tells the same frames.
+// the part, by states that are kept for the frame: so they are computed once for each frame of the window that is told.
 ghost use Rattle.std.specs.Prelude.{ℕ, ◌≡◌, ◌^◌, ◌+◌, ◌<◌, length, All, IsTrue, MatchOption};
 ghost use Rattle.page_model.specs.Enclosure.{LooseRun, LooseState};
 ghost use Rattle.page_model.specs.TintOf.{tint_of as tint_by, tints_of};
@@ -19,6 +19,9 @@ use paint_blend::tint_of;
 
 /// How many turns a part tells.
 const TURNS: usize = 9;
+
+/// The most frames of a window: the states of each are kept at a place of their own.
+const FRAMES: usize = 241;
 
 /// A pixel whose tint isn't the stated one, and the part and turn of which it is stated: all numbered from 0.
 #[derive(Clone, Copy)]
@@ -140,7 +143,7 @@ fn wrong_in_frame(
     wrong_by_states(scene, kept.states(scene), part, tint)
 }
 
-/// The first turn of a part in which a pixel hasn't the stated tint, and the first such pixel. States are kept by turn.
+/// The first turn of a part in which a pixel hasn't the stated tint, and the first such pixel. States are kept by frame.
 fn wrong_in_part(
     scene: &Scene,
     setup: &Setup,
@@ -148,11 +151,11 @@ fn wrong_in_part(
     part: &Part,
 ) -> Option<WrongTurn>
     requires valid { IsValid scene.now }
-    requires nine { length kept.old ≡ 9 }
+    requires places { length kept.old ≡ 241 }
     requires kept { All (IsKept scene.now setup.now) kept.old }
     requires columns { part.now.x + part.now.width < 2 ^ 16 }
     requires rows { part.now.y + part.now.height < 2 ^ 16 }
-    ensures nine { length kept.new ≡ 9 }
+    ensures places { length kept.new ≡ 241 }
     ensures kept { All (IsKept scene.now setup.now) kept.new }
     ensures wrong { MatchOption result
         ((run : LooseRun) → IsOwnIn scene.now setup.now part.now run → HasTints (tints_of scene.now run) part.now)
@@ -165,7 +168,7 @@ fn wrong_in_part(
         if let Some(pixel) = wrong_in_frame(
             scene,
             setup,
-            &mut kept[turn],
+            &mut kept[frames[turn] as usize % FRAMES],
             frames[turn],
             part,
             tints[turn],
@@ -189,7 +192,7 @@ pub(crate) fn wrong_tint(scene: &Scene, setup: &Setup, witness: &Witness) -> Opt
 {
     // No part reaches past the viewport, whose sides are at most 4,096.
     let _sides = (setup.width(), setup.height());
-    let mut kept = [NO_STATES; TURNS];
+    let mut kept = [NO_STATES; FRAMES];
     let parts = witness.parts.as_slice();
     for part in 0..parts.len() {
         if let Some(wrong) = wrong_in_part(scene, setup, &mut kept, &parts[part]) {

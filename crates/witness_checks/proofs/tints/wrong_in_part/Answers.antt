@@ -1,32 +1,32 @@
 -- One turn more, and all nine; or the first in which a pixel hasn't the stated tint.
-use Rattle.std.proofs.Common.{◌∙◌, arith, rules}
+use Rattle.std.proofs.Common.{◌∙◌, arith, length, rules}
 use Rattle.std.proofs.lemmas.List.{length-set}
 use Rattle.std.proofs.lemmas.List.Elements.{All-get_or, All-set}
 use Rattle.std.proofs.lemmas.Option.{slice_get-get_or}
 use Rattle.page_model.specs.TintOf.{tints_of}
 use Rattle.witness_checks.specs.Kept.{IsKept}
-use Rattle.witness_checks.proofs.TintLemmas.{first-turn, turn-more, turns-all}
+use Rattle.witness_checks.proofs.TintLemmas.{first-turn, place-of, place-within, turn-more, turns-all}
 use Rattle.witness_checks.proofs.tints.wrong_in_part.Goals as goal
 
 pub loop-turn-init : goal.loop-turn-init
 loop-turn-init c = record {
   nine = record { frames = search rules; tints = search rules };
-  slots = c.requires.nine;
+  places = c.requires.places;
   kept = c.requires.kept;
   turns = λ run is turn frame tint below. absurd (omega (arith, below));
 }
 
 pub wrong_in_frame-requires-clause-kept : goal.wrong_in_frame-requires-clause-kept
 wrong_in_frame-requires-clause-kept c =
-    All-get_or (IsKept c.args.scene.now c.args.setup.now) c.loop-turn.kept c.loop-turn.turn _
-    (omega (arith, c.loop-turn.invariant.slots, c.loop-turn-test.true)) c.loop-turn.invariant.kept
+    All-get_or (IsKept c.args.scene.now c.args.setup.now) c.loop-turn.kept (place-of c.args.part.now c.loop-turn.turn) _
+    (place-within c.args.part.now c.loop-turn.turn (length c.loop-turn.kept) c.loop-turn.invariant.places) c.loop-turn.invariant.kept
 
-pub returns-in-Some-clause-nine : goal.returns-in-Some-clause-nine
-returns-in-Some-clause-nine c = length-set c.loop-turn.kept c.loop-turn.turn _ ∙ c.loop-turn.invariant.slots
+pub returns-in-Some-clause-places : goal.returns-in-Some-clause-places
+returns-in-Some-clause-places c = length-set c.loop-turn.kept (place-of c.args.part.now c.loop-turn.turn) _ ∙ c.loop-turn.invariant.places
 
 pub returns-in-Some-clause-kept : goal.returns-in-Some-clause-kept
 returns-in-Some-clause-kept c =
-    All-set (IsKept c.args.scene.now c.args.setup.now) c.loop-turn.kept c.loop-turn.turn c.wrong_in_frame.new.kept c.wrong_in_frame.ensures.kept
+    All-set (IsKept c.args.scene.now c.args.setup.now) c.loop-turn.kept (place-of c.args.part.now c.loop-turn.turn) c.wrong_in_frame.new.kept c.wrong_in_frame.ensures.kept
     c.loop-turn.invariant.kept
 
 pub returns-in-Some-clause-wrong : goal.returns-in-Some-clause-wrong
@@ -40,8 +40,8 @@ returns-in-Some-clause-wrong c run is =
 pub loop-turn-preserved : goal.loop-turn-preserved
 loop-turn-preserved c = record {
   nine = c.loop-turn.invariant.nine;
-  slots = length-set c.loop-turn.kept c.loop-turn.turn _ ∙ c.loop-turn.invariant.slots;
-  kept = All-set (IsKept c.args.scene.now c.args.setup.now) c.loop-turn.kept c.loop-turn.turn c.wrong_in_frame.new.kept
+  places = length-set c.loop-turn.kept (place-of c.args.part.now c.loop-turn.turn) _ ∙ c.loop-turn.invariant.places;
+  kept = All-set (IsKept c.args.scene.now c.args.setup.now) c.loop-turn.kept (place-of c.args.part.now c.loop-turn.turn) c.wrong_in_frame.new.kept
       c.wrong_in_frame.ensures.kept c.loop-turn.invariant.kept;
   turns = λ run is.
       let nine = c.loop-turn.invariant.nine in

@@ -11,7 +11,7 @@ use Rattle.witness_checks.proofs.tints.wrong_in_part.Given as goal
 abbrev pub invariant-loop-turn : goal.invariant-loop-turn
 invariant-loop-turn l = record {
   nine : HasNineTurns l.part;
-  slots : length l.kept ≡ 9;
+  places : length l.kept ≡ 241;
   kept : All (IsKept l.scene l.setup) l.kept;
   turns : (run : LooseRun) → IsOwnIn l.scene l.setup l.part run → HaveTintsBefore (tints_of l.scene run) l.part l.turn;
 }

@@ -1,9 +1,18 @@
 -- One part more, and all of them; or the first in which a pixel hasn't the stated tint.
-use Rattle.std.proofs.Common.{ap, get_or, length, arith}
+use Rattle.std.proofs.Common.{ap, get_or, length, arith, refl}
+use Rattle.std.proofs.lemmas.List.Elements.{All-replicate}
 use Rattle.std.proofs.lemmas.Option.{slice_get-get_or}
 use Rattle.page_model.specs.TintOf.{tints_of}
+use Rattle.witness_checks.specs.Kept.{IsKept}
 use Rattle.witness_checks.proofs.TintLemmas.{first-part, own-in-part, no_part, part-inside, part-more, part-there}
 use Rattle.witness_checks.proofs.tints.wrong_tint.Goals as goal
+
+pub loop-part-init : goal.loop-part-init
+loop-part-init c = record {
+  places = refl;
+  kept = All-replicate (IsKept c.args.scene.now c.args.setup.now) 241 _ (λ frame none. absurd cc);
+  parts = λ run is k other below. absurd (omega (arith, below));
+}
 
 pub wrong_in_part-requires-clause-columns : goal.wrong_in_part-requires-clause-columns
 wrong_in_part-requires-clause-columns c =
@@ -29,7 +38,7 @@ returns-in-Some c =
 
 pub loop-part-preserved : goal.loop-part-preserved
 loop-part-preserved c = record {
-  slots = c.wrong_in_part.ensures.nine;
+  places = c.wrong_in_part.ensures.places;
   kept = c.wrong_in_part.ensures.kept;
   parts = λ run is.
       let there = part-there c.args.witness.now.parts c.as_slice-parts.result.now c.loop-part.part _ c.as_slice-parts.ensures c.loop-part-test.true in

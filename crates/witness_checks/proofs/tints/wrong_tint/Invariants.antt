@@ -9,7 +9,7 @@ use Rattle.witness_checks.proofs.tints.wrong_tint.Given as goal
 
 abbrev pub invariant-loop-part : goal.invariant-loop-part
 invariant-loop-part l = record {
-  slots : length l.kept ≡ 9;
+  places : length l.kept ≡ 241;
   kept : All (IsKept l.scene l.setup) l.kept;
   parts : (run : LooseRun) → IsLooseRunIn own l.scene l.setup l.witness.start run → (k : ℕ) (other : Part) → k < l.part
       → slice_get l.witness.parts k ≡ Some other → HasTints (tints_of l.scene run) other;
