@@ -8,8 +8,6 @@ use Rattle.std.proofs.lemmas.List.Elements.{All-get_or}
 use Rattle.std.proofs.lemmas.Option.{slice_get-get_or, slice_get_within}
 use Rattle.page_model.specs.declared.scene.Scene.{Scene}
 use Rattle.page_model.specs.declared.setup.Setup.{Setup}
-use Rattle.page_model.specs.Enclosure.{LooseState}
-use Rattle.page_model.specs.TintOf.{covers_surely}
 use Rattle.frame_state.specs.Places.{LoosePlace, place_in}
 use Rattle.region_split.specs.Cutting.{Edges, cell_of}
 use Rattle.cell_groups.specs.declared.homes.Home.{Home}

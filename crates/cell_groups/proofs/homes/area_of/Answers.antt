@@ -1,5 +1,5 @@
 -- One frame more.
-use Rattle.std.proofs.Common.{◌≡◌, ◌+◌, ◌<◌, arith, inl, inr, subst, sym}
+use Rattle.std.proofs.Common.{◌≡◌, arith, inl, inr, subst}
 use Rattle.std.proofs.lemmas.Bool.{cases_lt}
 use Rattle.page_model.specs.Enclosure.{IsLooseStateAt, own}
 use Rattle.frame_state.specs.Places.{IsOwnPlace, LoosePlace, place_as, place_in}
