@@ -2,18 +2,18 @@
 use Rattle.std.proofs.Common.{ℕ, ◌≡◌, ◌⊎◌, ◌∙◌, ◌+◌, ◌-◌, ◌<◌, ◌≤◌, Bool, false, true, List, length, drop, slice_get, Some, arith, inl, inr, subst, sym, ap}
 use Rattle.std.specs.Prelude.{◌↔◌}
 use Rattle.page_model.specs.declared.colour.Tint.{Tint}
-use Rattle.flash_count.specs.declared.changes.Change.{Change}
-use Rattle.flash_count.specs.declared.changes.Change.TheVariants.{PossibleRise, PossiblyIntoRed, SureRise, SurelyIntoRed}
+use Rattle.tint_changes.specs.declared.changes.Change.{Change}
+use Rattle.tint_changes.specs.declared.changes.Change.TheVariants.{PossibleRise, PossiblyIntoRed, SureRise, SurelyIntoRed}
 use Rattle.flash_count.specs.Chains.{HasChainOf, HasPossibleChain, HasSureChain}
-use Rattle.flash_count.specs.Counting.{Makes, MakesAt}
-use Rattle.flash_count.specs.Rows.{EndsBefore, EndsWith, is_sure, opposite_of}
-use Rattle.flash_count.specs.Starts.{IsLatest, Leads}
+use Rattle.tint_changes.specs.Counting.{Makes, MakesAt}
+use Rattle.flash_rows.specs.Rows.{EndsBefore, EndsWith, is_sure, opposite_of}
+use Rattle.flash_rows.specs.Starts.{IsLatest, Leads}
 use Rattle.flash_count.specs.Tracked.{last_of}
-use Rattle.flash_count.proofs.ChainLemmas.{change-within}
+use Rattle.tint_changes.proofs.ChainLemmas.{change-within}
 use Rattle.flash_count.proofs.LeadLemmas.{chain-leads, leads-chain}
-use Rattle.flash_count.proofs.ListLemmas.{slice_get-drop}
-use Rattle.flash_count.proofs.RowLemmas.{AreOfSort, IsOneOf, opposite-twice, possible-sort, sure-sort}
-use Rattle.flash_count.proofs.StartLemmas.{leads-moved}
+use Rattle.flash_rows.proofs.ListLemmas.{slice_get-drop}
+use Rattle.flash_rows.proofs.RowLemmas.{AreOfSort, IsOneOf, opposite-twice, possible-sort, sure-sort}
+use Rattle.flash_rows.proofs.StartLemmas.{leads-moved}
 
 -- a change between two frames is one between what is left of them, and the other way round
 dropped : (tints : List Tint) (gone k : ℕ) (tint : Tint) → gone ≤ k → slice_get tints k ≡ Some tint

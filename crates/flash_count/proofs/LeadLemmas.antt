@@ -1,9 +1,9 @@
 -- Changes in turn that lead to a frame, told from their start as places that follow one another, and chains by them.
 use Rattle.std.proofs.Common.{ℕ, zero, suc, ◌≡◌, ◌⊎◌, ◌+◌, ◌∙◌, List, [], ◌∷◌, length, arith, inl, inr, refl, subst, sym}
 use Rattle.flash_count.specs.Chains.{HasChainOf, IsChangeAt}
-use Rattle.flash_count.specs.Runs.{Follows, IsRun}
-use Rattle.flash_count.specs.Starts.{Leads}
-use Rattle.flash_count.proofs.ChainLemmas.{chain-run, run-chain}
+use Rattle.tint_changes.specs.Runs.{Follows, IsRun}
+use Rattle.flash_rows.specs.Starts.{Leads}
+use Rattle.tint_changes.proofs.ChainLemmas.{chain-run, run-chain}
 
 -- of two sorts in turn, the one that comes after so many
 abbrev pub in_turn : ℕ → (ℕ → ℕ → Type 0) → (ℕ → ℕ → Type 0) → ℕ → ℕ → Type 0

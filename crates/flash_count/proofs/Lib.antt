@@ -1,17 +1,4 @@
-pub mod RedLemmas
-pub mod LaneLemmas
-pub mod SingleLemmas
-pub mod PassLemmas
-pub mod LowerLemmas
-pub mod StillLemmas
 pub mod FlagLemmas
-pub mod RowLemmas
-pub mod ListLemmas
 pub mod LeadLemmas
-pub mod StartLemmas
-pub mod ChainLemmas
-pub mod CountLemmas
-pub mod RunLemmas
 pub mod SeenLemmas
-pub mod TraceLemmas
 pub mod TrackedLemmas

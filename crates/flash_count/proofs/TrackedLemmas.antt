@@ -6,9 +6,9 @@ use Rattle.std.proofs.lemmas.List.FromFn.{get_or-map-range_with_len, length-map-
 use Rattle.std.proofs.lemmas.Option.{get_or_from_slice_get}
 use Rattle.page_model.specs.declared.colour.Tint.{Tint}
 use Rattle.std.specs.Prelude.{min, Some, slice_get}
-use Rattle.flash_count.specs.Rows.{StandsFor, tint_in, words_at}
+use Rattle.flash_rows.specs.Rows.{StandsFor, tint_in, words_at}
 use Rattle.flash_count.specs.Tracked.{last_of, pushed, tints_in, tracked_after, untracked}
-use Rattle.flash_count.proofs.ListLemmas.{slice_get-drop}
+use Rattle.flash_rows.proofs.ListLemmas.{slice_get-drop}
 
 -- the last of the last, with one item more, are the last of all with it
 pub last_of-push : {C : Type 0} (most : ℕ) (items : List C) (item : C)

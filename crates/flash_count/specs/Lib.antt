@@ -1,9 +1,3 @@
 pub mod Chains
-pub mod Counting
-pub mod Lanes
-pub mod Made
-pub mod Pushing
-pub mod Rows
-pub mod Runs
-pub mod Starts
 pub mod Tracked
+pub use Rattle.flash_rows.specs.Rows

@@ -4,7 +4,7 @@ use Rattle.std.specs.List.{range_with_len}
 use Rattle.page_model.specs.declared.colour.Tint.{Tint}
 use Rattle.flash_count.specs.declared.tracking.Flag.{Flag}
 use Rattle.flash_count.specs.Chains.{HasPossibleChain, HasSureChain}
-use Rattle.flash_count.specs.Rows.{StandsFor, tint_in, words_at}
+use Rattle.flash_rows.specs.Rows.{StandsFor, tint_in, words_at}
 
 -- the last items of a list, so many or all
 abbrev pub last_of : {C : Type 0} → ℕ → List C → List C

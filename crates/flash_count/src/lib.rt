@@ -14,18 +14,9 @@
 //! tints has to do with frames stands in `proofs/`.
 #![tactic(auto)]
 
-mod changes;
-mod counting;
-mod lanes;
-mod latest;
-mod made;
-mod next;
 mod rows;
-mod starts;
-mod still;
 mod tracing;
 mod tracking;
-mod words;
 
 pub use rows::{row_begin, row_push, row_words};
 pub use tracing::{Trace, chain};

@@ -1,12 +1,12 @@
 // Rows of words that stand for the tints of a pixel, and one push into them.
 ghost use Rattle.std.specs.Prelude.{ℕ, List, ◌≡◌, ◌⊎◌, ◌↔◌, IsTrue, ◌+◌, ◌*◌, ◌^◌, ◌<◌, ◌≤◌, ◌++◌, ◌∷◌, [], length, slice_index};
 ghost use Rattle.page_model.specs.declared.colour.Tint.{Tint};
-ghost use Rattle.flash_count.specs.Rows.{StandsFor, byte};
+ghost use Rattle.flash_rows.specs.Rows.{StandsFor, byte};
 ghost use Rattle.flash_count.specs.Tracked.{Tells, last_of};
 
-use crate::next::next_words;
 use crate::tracking::Flag;
-use crate::words::bytes_of;
+use byte_lanes::bytes_of;
+use flash_rows::next_words;
 use page_model::Tint;
 
 /// How many words a row has for a rate in frames per second: nine for each frame of a window.

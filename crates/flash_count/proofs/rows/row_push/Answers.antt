@@ -1,7 +1,7 @@
 -- The row with the words of the next frame, and its flag.
 use Rattle.std.proofs.Common.{ℕ, ◌≡◌, ◌∙◌, ◌+◌, ◌*◌, ◌%◌, ◌<◌, ◌≤◌, ◌⊎◌, List, [], ◌∷◌, ◌++◌, ap, get_or, length, length-append, subst, sym}
 use Rattle.page_model.specs.declared.colour.Tint.{Tint}
-use Rattle.flash_count.proofs.RowLemmas.{row-pushed}
+use Rattle.flash_rows.proofs.RowLemmas.{row-pushed}
 use Rattle.flash_count.proofs.FlagLemmas.{flag-possible, flag-sure}
 use Rattle.flash_count.proofs.rows.row_push.Goals as goal
 

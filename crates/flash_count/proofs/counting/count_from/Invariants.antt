@@ -1,6 +1,0 @@
-use Rattle.flash_count.specs.Counting.{IsCountBefore, MakesAt}
-use Rattle.flash_count.proofs.counting.count_from.Given as goal
-
-abbrev pub invariant-loop-later : goal.invariant-loop-later
-invariant-loop-later l =
-    IsCountBefore (MakesAt l.opposing.first l.tints) (MakesAt l.opposing.second l.tints) l.place l.later l.count

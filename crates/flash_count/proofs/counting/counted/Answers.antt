@@ -1,9 +1,0 @@
-use Rattle.flash_count.specs.Counting.{MakesAt}
-use Rattle.flash_count.proofs.CountLemmas.{count_before-raised}
-use Rattle.flash_count.proofs.counting.counted.Goals as goal
-
-pub returns : goal.returns
-returns c =
-    count_before-raised (MakesAt c.args.opposing.first c.args.tints.now) (MakesAt c.args.opposing.second c.args.tints.now)
-    c.args.place c.args.later c.args.count c.args.after c.min.result c.requires.place c.requires.count c.requires.after
-    c.if-after-count.false (c.is_made_at.ensures.0 c.if-not-is_made_at.false) c.min.ensures

@@ -1,5 +1,0 @@
-use Rattle.std.proofs.Common.{length}
-use Rattle.flash_count.proofs.tracing.+follow.Given as goal
-
-abbrev pub decreases-follow : goal.decreases-follow
-decreases-follow l = length l.places.now

@@ -1,5 +1,0 @@
-use Rattle.std.proofs.Common.{length}
-use Rattle.flash_count.proofs.tracing.+is_no_later.Given as goal
-
-abbrev pub decreases-is_no_later : goal.decreases-is_no_later
-decreases-is_no_later l = length l.first.now

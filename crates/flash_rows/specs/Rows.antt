@@ -1,0 +1,81 @@
+-- Rows of words that stand for the tints of a pixel. Of each of the last frames of a list, one more than the rate or all, a row holds
+-- nine words side by side. The first has the frame's tint in its six lower bytes. Each other belongs to a change: its eight bytes say,
+-- for one change up to eight, where the latest chain of so many changes starts that ends at the frame, and ends with this change.
+use Rattle.std.specs.Prelude.{ℕ, zero, suc, ◌≡◌, ◌+◌, ◌*◌, ◌%◌, ◌<◌, ◌≤◌, Bool, false, true, Some, List, length, slice_get, slice_index}
+pub use Rattle.byte_lanes.specs.Bytes.{byte, number_of}
+use Rattle.page_model.specs.declared.colour.Tint.{Tint}
+use Rattle.tint_changes.specs.declared.changes.Change.{Change}
+use Rattle.tint_changes.specs.declared.changes.Change.TheVariants.{PossibleRise, PossibleFall, SureRise, SureFall, PossiblyIntoRed, PossiblyOutOfRed, SurelyIntoRed, SurelyOutOfRed}
+use Rattle.tint_changes.specs.Counting.{MakesAt}
+use Rattle.flash_rows.specs.Starts.{IsLatest, Leads}
+
+-- the change that is opposed to another
+abbrev pub opposite_of : Change → Change
+opposite_of PossibleRise = PossibleFall
+opposite_of PossibleFall = PossibleRise
+opposite_of SureRise = SureFall
+opposite_of SureFall = SureRise
+opposite_of PossiblyIntoRed = PossiblyOutOfRed
+opposite_of PossiblyOutOfRed = PossiblyIntoRed
+opposite_of SurelyIntoRed = SurelyOutOfRed
+opposite_of SurelyOutOfRed = SurelyIntoRed
+
+-- a change is one of all colours of two tints, and not of some
+abbrev pub is_sure : Change → Bool
+is_sure PossibleRise = false
+is_sure PossibleFall = false
+is_sure SureRise = true
+is_sure SureFall = true
+is_sure PossiblyIntoRed = false
+is_sure PossiblyOutOfRed = false
+is_sure SurelyIntoRed = true
+is_sure SurelyOutOfRed = true
+
+-- the place among a frame's nine words of that of a change
+abbrev pub column_of : Change → ℕ
+column_of PossibleRise = 1
+column_of PossibleFall = 2
+column_of SureRise = 3
+column_of SureFall = 4
+column_of PossiblyIntoRed = 5
+column_of PossiblyOutOfRed = 6
+column_of SurelyIntoRed = 7
+column_of SurelyOutOfRed = 8
+
+-- the tint in a frame's first word
+abbrev pub tint_in : ℕ → Tint
+tint_in word = record {
+  lo = record { r = byte word 0; g = byte word 1; b = byte word 2 };
+  hi = record { r = byte word 3; g = byte word 4; b = byte word 5 };
+}
+
+-- so many changes of a list of tints lead from a start to a frame, and the last is this one
+abbrev pub EndsWith : Change → List Tint → ℕ → ℕ → ℕ → Type 0
+EndsWith change tints n frame start = Leads (MakesAt change tints) (MakesAt (opposite_of change) tints) n start frame
+
+-- a chain of eight changes, sure ones or possible ones, starts at a frame and ends before another
+pub record EndsBefore (sure : Bool) (tints : List Tint) (frame start : ℕ) : Type 0 where
+  pub end : ℕ
+  pub change : Change
+  pub sort : is_sure change ≡ sure
+  pub before : end < frame
+  pub ends : EndsWith change tints 8 end start
+
+-- nine words tell of a frame: its tint, and where the latest chains start that end at it; and in the two upper bytes of the first
+-- word, where the latest chain of eight possible changes starts that ends before the next frame, and the latest of sure ones
+pub record TellsOf (rate : ℕ) (tints : List Tint) (frame : ℕ) (word : ℕ → ℕ) : Type 0 where
+  pub tint : slice_get tints frame ≡ Some (tint_in (word 0))
+  pub starts : (change : Change) (n : ℕ) → n ≤ 8
+      → IsLatest (EndsWith change tints n frame) rate frame (number_of (word (column_of change)) n)
+  pub possible : IsLatest (EndsBefore false tints (frame + 1)) rate frame (byte (word 0) 6)
+  pub sure : IsLatest (EndsBefore true tints (frame + 1)) rate frame (byte (word 0) 7)
+
+-- the words of a frame in a row for a rate: each frame takes the place of that of a window before
+abbrev pub words_at : ℕ → List ℕ → ℕ → ℕ → ℕ
+words_at rate row frame i = slice_index row (9 * (frame % (rate + 1)) + i)
+
+-- a row stands at a rate for a list of tints
+pub record StandsFor (rate : ℕ) (tints : List Tint) (row : List ℕ) : Type 0 where
+  pub room : 9 * (rate + 1) ≤ length row
+  pub tells : (frame : ℕ) → frame < length tints → length tints ≤ frame + rate + 1
+      → TellsOf rate tints frame (words_at rate row frame)
