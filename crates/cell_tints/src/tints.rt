@@ -50,22 +50,24 @@ fn add_frame(
     Ok(())
 }
 
-/// Writes the tints of some cells in a frame, which are told by their numbers, in their order. It takes no memory.
+/// Writes the tints of some cells in a frame, which are told by their numbers, in their order, and the states of the
+/// layers by which they are painted. It takes no memory.
 pub fn tints_in_frame(
     scene: &Scene,
     setup: &Setup,
     cuts: &Cuts,
     chosen: &[u32],
     frame: u32,
+    states: &mut [LayerState],
     tints: &mut [Tint],
 )
     requires valid { IsValid scene.now }
     requires known { (i : _) → i < length chosen.now → slice_index chosen.now i < cells_of cuts.now }
+    requires layers { length states.old ≡ length scene.now.layers }
     requires all { length tints.old ≡ length chosen.now }
     ensures { AreTintsIn scene.now setup.now cuts.now frame chosen.now (length chosen.now) tints.new }
 {
-    let all = states_in(scene, setup, frame);
-    let states = &all[..scene.layers.len()];
+    states_at(scene, setup, u64::from(frame), states);
     for i in 0..chosen.len() {
         let cell = cuts.cell(chosen[i]);
         tints[i] = tint_of(scene, states, cell.x, cell.y);

@@ -6,7 +6,6 @@ use Rattle.std.proofs.lemmas.Option.{slice_get_within}
 use Rattle.page_model.specs.declared.colour.Tint.{Tint}
 use Rattle.page_model.specs.declared.scene.Scene.{Scene}
 use Rattle.page_model.specs.declared.setup.Setup.{Setup}
-use Rattle.page_model.specs.TintOf.{tint_of}
 use Rattle.page_model.specs.ValidScene.{IsValid}
 use Rattle.cell_flags.specs.Flags.{AreSeenAs}
 use Rattle.cell_groups.specs.Groups.{AreCoveredAlike, AreGroups, Grouping, first_of, group_of}

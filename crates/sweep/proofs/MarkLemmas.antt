@@ -1,5 +1,5 @@
 -- Marks tell the flags of the groups, and the best position is the best of these.
-use Rattle.std.proofs.Common.{◌≡◌, ◌∙◌, ℕ, ℤ, ap, false, ◌<◌, Bool, List, length, get_or, refl, subst, sym}
+use Rattle.std.proofs.Common.{◌≡◌, ◌∙◌, ℤ, ap, ◌<◌, Bool, List, length, get_or, subst, sym}
 use Rattle.page_model.specs.Cells.{cells_between}
 use Rattle.cell_flags.specs.Marks.{IsBest}
 use Rattle.cell_groups.specs.Groups.{Grouping, group_of}

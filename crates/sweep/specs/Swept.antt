@@ -122,17 +122,18 @@ pub record HasRows (rate cells : ℕ) (pool : Rows) : Type 0 where
   pub wide : (cell : ℕ) → cell < cells → 9 * (rate + 1) ≤ length (row_of pool cell)
   pub free : AreAllFree cells pool
 
--- each list has a place for each of so many cells, or of so many groups
-pub record HasPlaces (cells groups : ℕ) (room : Room) : Type 0 where
+-- each list has a place for each of so many layers, cells or groups
+pub record HasPlaces (layers cells groups : ℕ) (room : Room) : Type 0 where
+  pub states : length room.states.items ≡ layers
   pub tints : length room.tints.items ≡ groups
   pub flags : length room.flags.items ≡ groups
   pub marks : length room.marks.items ≡ cells
   pub work : length room.work.items ≡ cells
 
--- there is room for so many cells, in so many groups
-pub record IsRoom (rate cells groups : ℕ) (room : Room) : Type 0 where
+-- there is room for so many layers and cells, in so many groups
+pub record IsRoom (rate layers cells groups : ℕ) (room : Room) : Type 0 where
   pub rows : HasRows rate cells room.pool
-  pub places : HasPlaces cells groups room
+  pub places : HasPlaces layers cells groups room
 
 -- the cells are in groups, as they are where no region was judged by itself
 abbrev pub AreGroupedBy : Bool → Scene → Setup → ℕ → Edges → Grouping → Type 0
@@ -142,5 +143,5 @@ AreGroupedBy true scene setup needed edges groups = Unit {0}
 -- so it is with a room that is swept: there is a row for each cell
 pub record IsSweeping (apart : Bool) (scene : Scene) (setup : Setup) (needed : ℕ) (edges : Edges) (groups : Grouping)
     (room : Room) : Type 0 where
-  pub room_is : IsRoom (window_of setup) (length room.pool.rows) (groups_in groups) room
+  pub room_is : IsRoom (window_of setup) (length scene.layers) (length room.pool.rows) (groups_in groups) room
   pub grouped : AreGroupedBy apart scene setup needed edges groups

@@ -32,10 +32,10 @@ fn step(
     requires valid { IsValid scene.now }
     requires few { frame < 2 ^ 31 }
     requires cells { AreAlikeAt scene.now setup.now cuts.now groups.now frame }
-    requires places { HasPlaces (cells_of cuts.now) (groups_in groups.now) room.old }
+    requires places { HasPlaces (length scene.now.layers) (cells_of cuts.now) (groups_in groups.now) room.old }
     requires swept { IsSwept scene.now setup.now cuts.now groups.now frame room.old.pool found }
     ensures swept { IsSwept scene.now setup.now cuts.now groups.now (frame + 1) room.new.pool result }
-    ensures places { HasPlaces (cells_of cuts.now) (groups_in groups.now) room.new }
+    ensures places { HasPlaces (length scene.now.layers) (cells_of cuts.now) (groups_in groups.now) room.new }
     ensures only { OnlyRows (groups_in groups.now) room.old.pool room.new.pool }
 {
     let rate = setup.rate();
@@ -45,6 +45,7 @@ fn step(
         cuts,
         groups.firsts(),
         frame,
+        room.states.as_mut_slice(),
         room.tints.as_mut_slice(),
     );
     push_frame(
@@ -81,12 +82,12 @@ fn pass(
     requires few { windows ≤ 100000 }
     requires cells { AreAlikeCells scene.now setup.now (frames_for setup.now windows) cuts.now }
     requires groups { AreGroups scene.now setup.now (frames_for setup.now windows) cuts.now groups.now }
-    requires places { HasPlaces (cells_of cuts.now) (groups_in groups.now) room.old }
+    requires places { HasPlaces (length scene.now.layers) (cells_of cuts.now) (groups_in groups.now) room.old }
     requires roomy { AreRoomy (window_of setup.now) (groups_in groups.now) room.old.pool }
     requires begun { AreAllBegun (window_of setup.now) (groups_in groups.now) room.old.pool }
     ensures found { IsFoundIn scene.now setup.now cuts.now windows result }
     ensures roomy { AreRoomy (window_of setup.now) (groups_in groups.now) room.new.pool }
-    ensures places { HasPlaces (cells_of cuts.now) (groups_in groups.now) room.new }
+    ensures places { HasPlaces (length scene.now.layers) (cells_of cuts.now) (groups_in groups.now) room.new }
     ensures only { OnlyRows (groups_in groups.now) room.old.pool room.new.pool }
 {
     let mut found = Found {
@@ -115,9 +116,9 @@ pub(crate) fn find(
     requires few { windows ≤ 100000 }
     requires cells { AreAlikeCells scene.now setup.now (frames_for setup.now windows) cuts.now }
     requires groups { AreGroups scene.now setup.now (frames_for setup.now windows) cuts.now groups.now }
-    requires room { IsRoom (window_of setup.now) (cells_of cuts.now) (groups_in groups.now) room.old }
+    requires room { IsRoom (window_of setup.now) (length scene.now.layers) (cells_of cuts.now) (groups_in groups.now) room.old }
     ensures found { IsFoundIn scene.now setup.now cuts.now windows result }
-    ensures room { IsRoom (window_of setup.now) (cells_of cuts.now) (groups_in groups.now) room.new }
+    ensures room { IsRoom (window_of setup.now) (length scene.now.layers) (cells_of cuts.now) (groups_in groups.now) room.new }
     ensures free { room.new.pool.free ≡ room.old.pool.free }
 {
     let rows = groups.firsts().len() as u32;

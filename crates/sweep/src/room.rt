@@ -2,7 +2,9 @@
 ghost use Rattle.std.specs.Prelude.{◌≡◌, ◌+◌, ◌*◌, ◌^◌, ◌≤◌, IfOk, count_by};
 ghost use Rattle.sweep.specs.Swept.{IsRoom};
 
+use fix_span::Loose;
 use flash_count::{Flag, row_words};
+use frame_state::{LayerState, Shown};
 use page_model::{NoMemory, Rgb, Tint};
 use row_pool::Pool;
 use std::alloc::Global;
@@ -19,10 +21,28 @@ const UNFLAGGED: Flag = Flag {
     sure: false,
 };
 
+const ZERO: Loose = Loose { lo: 0, hi: 0 };
+
+/// The state of a layer that wasn't looked at yet.
+const NOTHING: LayerState = LayerState {
+    shown: Shown::No,
+    r: ZERO,
+    g: ZERO,
+    b: ZERO,
+    cover: ZERO,
+    alpha: ZERO,
+    left: ZERO,
+    top: ZERO,
+    width: ZERO,
+    height: ZERO,
+};
+
 /// A row for each cell, of which each group of cells uses one, and what is known in the frame that is looked at.
 #[derive(Drop)]
 pub(crate) struct Room {
     pub(crate) pool: Pool,
+    /// The states of the layers in the frame.
+    pub(crate) states: Vec<LayerState>,
     pub(crate) tints: Vec<Tint>,
     pub(crate) flags: Vec<Flag>,
     /// Which cells are flagged by the sort that is asked.
@@ -32,13 +52,14 @@ pub(crate) struct Room {
 }
 
 impl Room {
-    /// Room for so many cells, in so many groups, at a rate.
+    /// Room for so many layers and cells, these in so many groups, at a rate.
     ///
     /// # Errors
     ///
     /// `NoMemory` where memory is refused.
     pub(crate) fn open(
         alloc: Global,
+        layers: usize,
         cells: u32,
         groups: usize,
         rate: u16,
@@ -46,16 +67,18 @@ impl Room {
         requires some { 1 ≤ rate }
         requires limit { rate ≤ 240 }
         requires few { cells * (9 * (rate + 1)) ≤ 2 ^ 26 }
-        ensures room { IfOk result (λ room. IsRoom rate cells groups room) }
+        ensures room { IfOk result (λ room. IsRoom rate layers cells groups room) }
         ensures free { IfOk result (λ room. count_by (λ is_free. is_free) room.pool.free ≡ cells) }
     {
         let pool = Pool::open(alloc, cells, row_words(rate))?;
+        let states = vec![in alloc; NOTHING; layers]?;
         let tints = vec![in alloc; BLACK; groups]?;
         let flags = vec![in alloc; UNFLAGGED; groups]?;
         let marks = vec![in alloc; false; cells as usize]?;
         let work = vec![in alloc; 0u32; cells as usize]?;
         Ok(Room {
             pool,
+            states,
             tints,
             flags,
             marks,

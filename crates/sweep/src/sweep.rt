@@ -164,7 +164,13 @@ fn open_whole(
         &cuts,
         needed + u32::from(setup.rate()) + 1,
     )?;
-    let room = Room::open(alloc, cuts.cells(), groups.firsts().len(), setup.rate())?;
+    let room = Room::open(
+        alloc,
+        scene.layers.len(),
+        cuts.cells(),
+        groups.firsts().len(),
+        setup.rate(),
+    )?;
     Ok(Sweep {
         scene,
         setup,
@@ -187,7 +193,7 @@ fn open_apart(alloc: Global, scene: Scene, setup: Setup) -> Result<Sweep, OpenFa
     };
     let cuts = Cuts::whole(alloc, &setup)?;
     let groups = Groups::none(alloc);
-    let room = Room::open(alloc, 0, 0, setup.rate())?;
+    let room = Room::open(alloc, scene.layers.len(), 0, 0, setup.rate())?;
     Ok(Sweep {
         scene,
         setup,

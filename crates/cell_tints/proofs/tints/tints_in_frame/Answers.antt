@@ -1,5 +1,5 @@
 -- The tint that is written is that of the next cell.
-use Rattle.std.proofs.Common.{rules, take, ap, sym}
+use Rattle.std.proofs.Common.{rules, ap, sym}
 use Rattle.std.proofs.lemmas.Option.{slice_get_within}
 use Rattle.frame_state.specs.States.{states_as}
 use Rattle.region_split.specs.declared.types.Rect.{Rect}
@@ -8,7 +8,7 @@ use Rattle.cell_tints.proofs.tints.tints_in_frame.Goals as goal
 
 pub tint_of-requires-clause-ready : goal.tint_of-requires-clause-ready
 tint_of-requires-clause-ready c number layer is coloured =
-    rw c.len.ensures (c.states_in-all.ensures.ranges number (slice_get_within c.args.scene.now.layers number layer is))
+    c.states_at.ensures.ranges number (slice_get_within c.args.scene.now.layers number layer is)
 
 pub loop-i-preserved : goal.loop-i-preserved
 loop-i-preserved c =
@@ -16,5 +16,5 @@ loop-i-preserved c =
     c.loop-i.tints c.tint_of.result c.loop-i.invariant (search rules)
     (sym (ap (λ (r : Rect). r.x) c.cell-cell.ensures)) (sym (ap (λ (r : Rect). r.y) c.cell-cell.ensures))
     (own-tint c.args.scene.now c.args.setup.now c.args.frame c.cell-cell.result.x c.cell-cell.result.y c.tint_of.result
-    (states_as (take c.len.result c.states_in-all.result), rw c.len.ensures c.states_in-all.ensures.own, c.tint_of.ensures.value)
+    (states_as c.states_at.new.out, rw c.from.ensures at c.states_at.ensures.own, c.tint_of.ensures.value)
     c.tint_of.ensures.ordered)

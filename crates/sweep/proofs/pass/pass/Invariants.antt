@@ -1,3 +1,4 @@
+use Rattle.std.specs.Prelude.{length}
 use Rattle.cell_rows.specs.CellRows.{OnlyRows}
 use Rattle.cell_tints.specs.Tints.{cells_of}
 use Rattle.sweep.specs.Swept.{HasPlaces, IsSwept, groups_in}
@@ -6,6 +7,6 @@ use Rattle.sweep.proofs.pass.pass.Given as goal
 abbrev pub invariant-frames : goal.invariant-frames
 invariant-frames l = record {
   swept : IsSwept l.scene l.setup l.cuts l.groups l.frame l.room.pool l.found;
-  places : HasPlaces (cells_of l.cuts) (groups_in l.groups) l.room;
+  places : HasPlaces (length l.scene.layers) (cells_of l.cuts) (groups_in l.groups) l.room;
   only : OnlyRows (groups_in l.groups) l.fn.room.pool l.room.pool;
 }

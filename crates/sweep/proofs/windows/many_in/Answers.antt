@@ -1,5 +1,5 @@
 -- The rectangle holds more than a quarter, and its first position with the most is told.
-use Rattle.std.proofs.Common.{◌≡◌, ◌∙◌, ℕ, Bool, List, length, rules, subst, sym}
+use Rattle.std.proofs.Common.{◌≡◌, ◌∙◌, Bool, List, length, rules, subst, sym}
 use Rattle.page_model.specs.Cells.{cells_between}
 use Rattle.window_area.specs.FlaggedArea.{IsGreatest}
 use Rattle.sweep.specs.Told.{AreMarksOf}
