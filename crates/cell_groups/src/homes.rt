@@ -99,12 +99,12 @@ fn grown(area: Area, place: Place) -> Area
     }
 }
 
-/// No area at all: a box that has no frame is nowhere.
+/// No area at all, which any place makes greater: a box that has no frame is nowhere.
 const NOWHERE: Area = Area {
-    left: 0,
-    right: 0,
-    top: 0,
-    bottom: 0,
+    left: 16_384,
+    right: -16_384,
+    top: 16_384,
+    bottom: -16_384,
 };
 
 /// The area that a box never leaves in so many frames.
