@@ -1,3 +1,4 @@
+pub mod BoundLemmas
 pub mod ListLemmas
 pub mod LowerLemmas
 pub mod PassLemmas

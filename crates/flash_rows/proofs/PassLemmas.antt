@@ -32,15 +32,15 @@ through-passed R S n frame next end window best at inside from to =
 
 -- the tint of a frame by its place in the row
 tint-at : (rate frame place : ℕ) (tints : List Tint) (row : List ℕ) → StandsFor rate tints row → frame < length tints
-    → length tints ≤ frame + rate + 1 → place ≡ frame % (rate + 1) → slice_get tints frame ≡ Some (tint_in (get_or row (9 * place) 0))
+    → length tints ≤ frame + rate → place ≡ frame % rate → slice_get tints frame ≡ Some (tint_in (get_or row (9 * place) 0))
 tint-at rate frame place tints row stands below near at =
-    let index : 9 * (frame % (rate + 1)) + 0 ≡ 9 * place = omega (arith, at) in
+    let index : 9 * (frame % rate) + 0 ≡ 9 * place = omega (arith, at) in
     (stands.tells frame below near).tint ∙ ap (λ i. Some (tint_in (get_or row i 0))) index
 
 -- so the numbers stay
 pub starts-passed : (rate age turn behind place : ℕ) (tints : List Tint) (tint : Tint) (row : List ℕ) (change : Change) (n number : ℕ)
-    → length tints ≡ turn → StandsFor rate tints row → 1 < age → age ≤ turn → age ≤ rate → behind ≡ (turn + 1 - age) % (rate + 1)
-    → place ≡ (turn - age) % (rate + 1) → tint_in (get_or row (9 * behind) 0) ≡ tint_in (get_or row (9 * place) 0)
+    → length tints ≡ turn → StandsFor rate tints row → 1 < age → age ≤ turn → age ≤ rate → behind ≡ (turn + 1 - age) % rate
+    → place ≡ (turn - age) % rate → tint_in (get_or row (9 * behind) 0) ≡ tint_in (get_or row (9 * place) 0)
     → IsLatest (Back change (tints ++ tint ∷ []) n (turn + 1 - age) turn) rate turn number
     → IsLatest (Back change (tints ++ tint ∷ []) n (turn - age) turn) rate turn number
 starts-passed rate age turn behind place tints tint row change n number count stands some within near at_next at_frame alike =

@@ -11,11 +11,11 @@ use Rattle.flash_rows.specs.Pushing.{LoweredKind}
 lower-corner : (tint : Tint) → IsSaturated tint.lo → HasSaturated tint
 lower-corner tint is = (tint.lo, record { red = inl refl; green = inl refl; blue = inl refl }, is)
 
-possible-saturated : (Far : Chromaticity → Chromaticity → Type 0) (a b red : Tint) → IsPossiblyRed Far a b red → HasSaturated red
+pub possible-saturated : (Far : Chromaticity → Chromaticity → Type 0) (a b red : Tint) → IsPossiblyRed Far a b red → HasSaturated red
 possible-saturated Far a b red (inl far) = lower-corner red far.1
 possible-saturated Far a b red (inr loose) = loose.1
 
-sure-saturated : (Far : Chromaticity → Chromaticity → Type 0) (a b red : Tint) → IsSurelyRed Far a b red → HasSaturated red
+pub sure-saturated : (Far : Chromaticity → Chromaticity → Type 0) (a b red : Tint) → IsSurelyRed Far a b red → HasSaturated red
 sure-saturated Far a b red sure = lower-corner red sure.1
 
 abbrev pub unmade : Made

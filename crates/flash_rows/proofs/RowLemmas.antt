@@ -1,7 +1,7 @@
 -- What a row tells of each frame, and how that of the next frame comes of it.
 use Rattle.std.proofs.Common.{ℕ, zero, suc, ◌≡◌, ◌⊎◌, ◌∙◌, ◌+◌, ◌-◌, ◌*◌, ◌/◌, ◌%◌, ◌<◌, ◌≤◌, Bool, true, false, List, [], ◌∷◌, ◌++◌, length, get_or, slice_get, Some, arith, inl, inr, refl, subst, sym, ap, length-append}
 use Rattle.std.specs.Prelude.{min}
-use Rattle.std.proofs.Math.Nat.{mul-le-mul_right}
+use Rattle.std.proofs.Math.Nat.{mod-lt, mul-le-mul_right}
 use Rattle.std.proofs.lemmas.Bool.{cases_lt}
 use Rattle.std.proofs.lemmas.Nat.{div-add-mod'}
 use Rattle.std.proofs.lemmas.Option.{slice_get_within}
@@ -10,6 +10,8 @@ use Rattle.tint_changes.specs.declared.changes.Change.{Change}
 use Rattle.tint_changes.specs.declared.changes.Change.TheVariants.{PossibleRise, PossibleFall, SureRise, SureFall, PossiblyIntoRed, PossiblyOutOfRed, SurelyIntoRed, SurelyOutOfRed}
 use Rattle.tint_changes.specs.Counting.{Makes, MakesAt}
 use Rattle.flash_rows.specs.Rows.{EndsBefore, EndsWith, StandsFor, TellsOf, byte, column_of, is_sure, number_of, opposite_of, tint_in, words_at}
+use Rattle.flash_rows.specs.declared.bounds.Bounds.{Bounds}
+use Rattle.flash_rows.specs.Bounds.{AreWithin, bounds_at}
 use Rattle.flash_rows.specs.Pushing.{LoweredIf}
 use Rattle.flash_rows.specs.Starts.{IsLatest, Leads}
 use Rattle.tint_changes.proofs.ChainLemmas.{change-within}
@@ -150,7 +152,7 @@ made-at change tints tint earlier frame there made = record {
   changes = made;
 }
 
-at-made : (change : Change) (tints : List Tint) (tint earlier : Tint) (frame : ℕ) → slice_get tints frame ≡ Some earlier
+pub at-made : (change : Change) (tints : List Tint) (tint earlier : Tint) (frame : ℕ) → slice_get tints frame ≡ Some earlier
     → MakesAt change (tints ++ tint ∷ []) frame (length tints) → Makes change earlier tint
 at-made change tints tint earlier frame there at =
     let first : at.earlier ≡ earlier =
@@ -161,14 +163,14 @@ at-made change tints tint earlier frame there at =
 -- the numbers of a change with one frame more
 pub starts-more : (rate age low place : ℕ) (tints : List Tint) (tint : Tint) (row : List ℕ) (change : Change) (best least : List ℕ) (n : ℕ)
     → StandsFor rate tints row → 0 < age → age ≤ length tints → age ≤ rate → rate ≤ 240 → low + age ≡ length tints + 1
-    → place ≡ (length tints - age) % (rate + 1) → n < 8
+    → place ≡ (length tints - age) % rate → n < 8
     → LoweredIf (Makes change (tint_in (get_or row (9 * place) 0)) tint) best (get_or row (9 * place + column_of (opposite_of change)) 0) age least
     → IsLatest (Back change (tints ++ tint ∷ []) n low (length tints)) rate (length tints) (get_or best n 0)
     → IsLatest (Back change (tints ++ tint ∷ []) n (length tints - age) (length tints)) rate (length tints) (get_or least n 0)
 starts-more rate age low place tints tint row change best least n stands some within near limit at is few lowered before =
     let frame : ℕ = length tints - age in
     let tells = stands.tells frame (omega arith) (omega arith) in
-    let first : 9 * (frame % (rate + 1)) + 0 ≡ 9 * place = omega (arith, is) in
+    let first : 9 * (frame % rate) + 0 ≡ 9 * place = omega (arith, is) in
     let there : slice_get tints frame ≡ Some (tint_in (get_or row (9 * place) 0)) =
     tells.tint ∙ ap (λ i. Some (tint_in (get_or row i 0))) first in
     let all : List Tint = tints ++ tint ∷ [] in
@@ -179,7 +181,7 @@ starts-more rate age low place tints tint row change best least n stands some wi
           (omega arith) (tells.starts (opposite_of change) n (omega arith)) in
           let turned = subst (λ (c : Change). IsLatest (λ s. Leads (MakesAt (opposite_of change) all) (MakesAt c all) n s frame) rate frame
           (number_of (words_at rate row frame (column_of (opposite_of change))) n)) (opposite-twice change) starts in
-          let index : 9 * (frame % (rate + 1)) + column_of (opposite_of change) ≡ 9 * place + column_of (opposite_of change) = omega (arith, is) in
+          let index : 9 * (frame % rate) + column_of (opposite_of change) ≡ 9 * place + column_of (opposite_of change) = omega (arith, is) in
           let here = subst (λ i. IsLatest (λ s. Leads (MakesAt (opposite_of change) all) (MakesAt change all) n s frame) rate frame
           (number_of (get_or row i 0) n)) index turned in
           through-made (MakesAt change all) (MakesAt (opposite_of change) all) n frame low (length tints) rate age (get_or best n 0)
@@ -194,13 +196,13 @@ starts-more rate age low place tints tint row change best least n stands some wi
 
 -- the same with the number of frames by name
 pub starts-step : (rate age turn place : ℕ) (tints : List Tint) (tint : Tint) (row : List ℕ) (change : Change) (best least : List ℕ) (n : ℕ)
-    → length tints ≡ turn → StandsFor rate tints row → 0 < age → age ≤ turn → age ≤ rate → rate ≤ 240 → place ≡ (turn - age) % (rate + 1) → n < 8
+    → length tints ≡ turn → StandsFor rate tints row → 0 < age → age ≤ turn → age ≤ rate → rate ≤ 240 → place ≡ (turn - age) % rate → n < 8
     → LoweredIf (Makes change (tint_in (get_or row (9 * place) 0)) tint) best (get_or row (9 * place + column_of (opposite_of change)) 0) age least
     → IsLatest (Back change (tints ++ tint ∷ []) n (turn + 1 - age) turn) rate turn (get_or best n 0)
     → IsLatest (Back change (tints ++ tint ∷ []) n (turn - age) turn) rate turn (get_or least n 0)
 starts-step rate age turn place tints tint row change best least n count stands some within near limit at few lowered =
     subst
-    (λ t. age ≤ t → place ≡ (t - age) % (rate + 1) → IsLatest (Back change (tints ++ tint ∷ []) n (t + 1 - age) t) rate t (get_or best n 0)
+    (λ t. age ≤ t → place ≡ (t - age) % rate → IsLatest (Back change (tints ++ tint ∷ []) n (t + 1 - age) t) rate t (get_or best n 0)
     → IsLatest (Back change (tints ++ tint ∷ []) n (t - age) t) rate t (get_or least n 0))
     count
     (λ inside there before.
@@ -337,7 +339,7 @@ pub sure-sort : AreOfSort true SureRise SurelyIntoRed
 sure-sort = record { rises = refl; falls = refl; goes_in = refl; goes_out = refl; only = one-sure }
 
 -- two frames of one window have places of their own
-mod-apart : (j k window : ℕ) → j < k → k < j + window → (j % window ≡ k % window) → ⊥
+pub mod-apart : (j k window : ℕ) → j < k → k < j + window → (j % window ≡ k % window) → ⊥
 mod-apart j k window before near same =
     let first : j / window * window + j % window ≡ j = div-add-mod' j window in
     let second : k / window * window + k % window ≡ k = div-add-mod' k window in
@@ -351,27 +353,29 @@ mod-apart j k window before near same =
           omega (arith, same)
     ]
 
--- a row with the words of the next frame in their place
-pub row-pushed : (rate turn : ℕ) (tints : List Tint) (tint : Tint) (old new words : List ℕ) → turn ≡ length tints → StandsFor rate tints old
-    → TellsOf rate (tints ++ tint ∷ []) turn (λ i. get_or words i 0) → length new ≡ length old
-    → ((i : ℕ) → i < 9 → get_or new (9 * (turn % (rate + 1)) + i) 0 ≡ get_or words i 0)
-    → ((i : ℕ) → (i < 9 * (turn % (rate + 1))) ⊎ (9 * (turn % (rate + 1)) + 9 ≤ i) → get_or new i 0 ≡ get_or old i 0)
-    → StandsFor rate (tints ++ tint ∷ []) new
-row-pushed rate turn tints tint old new words last stands next long there others = record {
+-- a row with the words of the next frame in their place, and behind all words the bounds of the last tints
+pub row-pushed : (rate turn : ℕ) (tints : List Tint) (tint : Tint) (old new words : List ℕ) (bounds : Bounds) → 1 ≤ rate → turn ≡ length tints
+    → StandsFor rate tints old → TellsOf rate (tints ++ tint ∷ []) turn (λ i. get_or words i 0) → AreWithin rate (tints ++ tint ∷ []) bounds
+    → length new ≡ length old → ((i : ℕ) → i < 9 → get_or new (9 * (turn % rate) + i) 0 ≡ get_or words i 0)
+    → ((i : ℕ) → i < 9 * rate → (i < 9 * (turn % rate)) ⊎ (9 * (turn % rate) + 9 ≤ i) → get_or new i 0 ≡ get_or old i 0)
+    → bounds_at rate new ≡ bounds → StandsFor rate (tints ++ tint ∷ []) new
+row-pushed rate turn tints tint old new words bounds some last stands next within long there others at_end = record {
   room = let before = stands.room in omega (arith, long);
   tells = λ frame below near.
       let count : length (tints ++ tint ∷ []) ≡ length tints + 1 = length-append tints (tint ∷ []) in
+      let slot : frame % rate < rate = mod-lt frame (omega arith) in
       elim (cases_lt frame turn) [
         | inl early ↦
-            let apart = mod-apart frame turn (rate + 1) early (omega (arith, count)) in
+            let apart = mod-apart frame turn rate early (omega (arith, count)) in
             tells-grown rate tints tint frame (words_at rate old frame) (words_at rate new frame) (omega arith)
-            (λ i few. sym (others (9 * (frame % (rate + 1)) + i) (aside (frame % (rate + 1)) (turn % (rate + 1)) i few apart)))
+            (λ i few. sym (others (9 * (frame % rate) + i) (omega arith) (aside (frame % rate) (turn % rate) i few apart)))
             (stands.tells frame (omega arith) (omega (arith, count)))
         | inr late ↦
             let at : turn ≡ frame = omega (arith, count) in
             subst (λ k. TellsOf rate (tints ++ tint ∷ []) k (words_at rate new k)) at
             (tells-same rate (tints ++ tint ∷ []) turn (λ i. get_or words i 0) (words_at rate new turn) (λ i few. sym (there i few)) next)
       ];
+  within = subst (λ (b : Bounds). AreWithin rate (tints ++ tint ∷ []) b) (sym at_end) within;
 } where
   aside : (p q i : ℕ) → i < 9 → (p ≡ q → ⊥) → (9 * p + i < 9 * q) ⊎ (9 * q + 9 ≤ 9 * p + i)
   aside p q i few apart = elim (cases_lt p q) [

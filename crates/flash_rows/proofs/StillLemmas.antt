@@ -121,7 +121,7 @@ ended-kept rate last turn sure tints tint before number stays is latest =
     (latest-later (EndsBefore sure tints (last + 1)) rate last turn 1 before latest stays.next))
 
 -- a word of the frame before, with each number one more, has the numbers of the next frame
-pub word-kept : (rate last turn place : ℕ) (row : List ℕ) (tints : List Tint) (tint : Tint) (change : Change) (word : ℕ) → place ≡ last % (rate + 1)
+pub word-kept : (rate last turn place : ℕ) (row : List ℕ) (tints : List Tint) (tint : Tint) (change : Change) (word : ℕ) → place ≡ last % rate
     → TellsOf rate tints last (words_at rate row last) → StaysAt tints tint last turn
     → ((i : ℕ) → i < 8 → byte word i ≡ min (byte (get_or row (9 * place + column_of change) 0) i + 1) (rate + 1)) → (n : ℕ) → n ≤ 8
     → IsLatest (EndsWith change (tints ++ tint ∷ []) n turn) rate turn (number_of word n)
@@ -132,11 +132,11 @@ word-kept rate last turn place row tints tint change word at tells stays is (suc
     (tells.starts change (suc n) few)
 
 -- and so has its first word
-pub first-kept : (rate last turn place i before number : ℕ) (row : List ℕ) (sure : Bool) (tints : List Tint) (tint : Tint) → place ≡ last % (rate + 1)
+pub first-kept : (rate last turn place i before number : ℕ) (row : List ℕ) (sure : Bool) (tints : List Tint) (tint : Tint) → place ≡ last % rate
     → IsLatest (EndsBefore sure tints (last + 1)) rate last (byte (words_at rate row last 0) i) → StaysAt tints tint last turn
     → before ≡ byte (get_or row (9 * place) 0) i → number ≡ min (before + 1) (rate + 1)
     → IsLatest (EndsBefore sure (tints ++ tint ∷ []) (turn + 1)) rate turn number
 first-kept rate last turn place i before number row sure tints tint at latest stays is more =
-    let index : 9 * place ≡ 9 * (last % (rate + 1)) + 0 = omega (arith, at) in
+    let index : 9 * place ≡ 9 * (last % rate) + 0 = omega (arith, at) in
     ended-kept rate last turn sure tints tint before number stays more
     (subst (IsLatest (EndsBefore sure tints (last + 1)) rate last) (sym (is ∙ ap (λ k. byte (get_or row k 0) i) index)) latest)

@@ -1,3 +1,4 @@
+pub mod Bounds
 pub mod Pushing
 pub mod Rows
 pub mod Starts

@@ -9,6 +9,8 @@ use Rattle.tint_changes.specs.declared.made.Made.{Made}
 use Rattle.tint_changes.specs.Counting.{Makes}
 use Rattle.byte_lanes.specs.Lanes.{AreBelow, numbers_of}
 use Rattle.tint_changes.specs.Made.{MadeByLight, MadeByRed}
+use Rattle.flash_rows.specs.declared.bounds.Bounds.{Bounds}
+use Rattle.flash_rows.specs.Bounds.{AreWithin}
 use Rattle.flash_rows.specs.Rows.{EndsBefore, EndsWith, StandsFor, TellsOf, column_of, number_of, opposite_of, tint_in, words_at}
 use Rattle.flash_rows.specs.Starts.{IsLatest}
 
@@ -89,6 +91,11 @@ abbrev pub TellAfter : ℕ → List ℕ → ℕ → Tint → List ℕ → Type 0
 TellAfter rate row turn tint words =
     (tints : List Tint) → length tints ≡ turn → StandsFor rate tints row
     → TellsOf rate (tints ++ tint ∷ []) turn (λ i. slice_index words i)
+
+-- bounds hold the last tints and the next one
+abbrev pub BoundsAfter : ℕ → List ℕ → ℕ → Tint → Bounds → Type 0
+BoundsAfter rate row turn tint bounds =
+    (tints : List Tint) → length tints ≡ turn → StandsFor rate tints row → AreWithin rate (tints ++ tint ∷ []) bounds
 
 -- in the row the frame before has the next tint, and no change lies between the two
 pub record IsStill (rate : ℕ) (row : List ℕ) (turn : ℕ) (tint : Tint) : Type 0 where

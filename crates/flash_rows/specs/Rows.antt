@@ -1,5 +1,5 @@
--- Rows of words that stand for the tints of a pixel. Of each of the last frames of a list, one more than the rate or all, a row holds
--- nine words side by side. The first has the frame's tint in its six lower bytes. Each other belongs to a change: its eight bytes say,
+-- Rows of words that stand for the tints of a pixel. Of each of the last frames of a list, as many as the rate or all, a row holds
+-- nine words side by side, and behind them the bounds between which their tints lie. The first has the frame's tint in its six lower bytes. Each other belongs to a change: its eight bytes say,
 -- for one change up to eight, where the latest chain of so many changes starts that ends at the frame, and ends with this change.
 use Rattle.std.specs.Prelude.{ℕ, zero, suc, ◌≡◌, ◌+◌, ◌*◌, ◌%◌, ◌<◌, ◌≤◌, Bool, false, true, Some, List, length, slice_get, slice_index}
 pub use Rattle.byte_lanes.specs.Bytes.{byte, number_of}
@@ -7,6 +7,7 @@ use Rattle.page_model.specs.declared.colour.Tint.{Tint}
 use Rattle.tint_changes.specs.declared.changes.Change.{Change}
 use Rattle.tint_changes.specs.declared.changes.Change.TheVariants.{PossibleRise, PossibleFall, SureRise, SureFall, PossiblyIntoRed, PossiblyOutOfRed, SurelyIntoRed, SurelyOutOfRed}
 use Rattle.tint_changes.specs.Counting.{MakesAt}
+use Rattle.flash_rows.specs.Bounds.{AreWithin, bounds_at}
 use Rattle.flash_rows.specs.Starts.{IsLatest, Leads}
 
 -- the change that is opposed to another
@@ -72,10 +73,11 @@ pub record TellsOf (rate : ℕ) (tints : List Tint) (frame : ℕ) (word : ℕ �
 
 -- the words of a frame in a row for a rate: each frame takes the place of that of a window before
 abbrev pub words_at : ℕ → List ℕ → ℕ → ℕ → ℕ
-words_at rate row frame i = slice_index row (9 * (frame % (rate + 1)) + i)
+words_at rate row frame i = slice_index row (9 * (frame % rate) + i)
 
 -- a row stands at a rate for a list of tints
 pub record StandsFor (rate : ℕ) (tints : List Tint) (row : List ℕ) : Type 0 where
   pub room : 9 * (rate + 1) ≤ length row
-  pub tells : (frame : ℕ) → frame < length tints → length tints ≤ frame + rate + 1
+  pub tells : (frame : ℕ) → frame < length tints → length tints ≤ frame + rate
       → TellsOf rate tints frame (words_at rate row frame)
+  pub within : AreWithin rate tints (bounds_at rate row)

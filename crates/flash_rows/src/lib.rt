@@ -7,10 +7,12 @@
 //! frame what the definitions say, whatever tints the row stands for. It says nothing of flags.
 #![tactic(auto)]
 
+mod bounds;
 mod latest;
 mod next;
 mod starts;
 mod still;
 mod words;
 
-pub use next::next_words;
+pub use bounds::Bounds;
+pub use next::{Next, next_words};

@@ -41,6 +41,7 @@ fn are_same(a: Tint, b: Tint) -> bool
 
 /// Whether the next tint is that of the frame before, and no change lies between the two.
 pub(crate) fn is_still(row: &[u64], rate: u16, turn: u32, tint: Tint) -> bool
+    requires some { 1 ≤ rate }
     requires limit { rate ≤ 240 }
     requires room { 9 * (rate + 1) ≤ length row.now }
     ensures { IsTrue result ↔ IsStill rate row.now turn tint }
@@ -70,6 +71,7 @@ fn later_word(word: u64, rate: u16) -> u64
 
 /// The words of the next frame where nothing changes: all starts are one frame further off.
 pub(crate) fn words_kept(row: &[u64], rate: u16, turn: u32, tint: Tint) -> [u64; 9]
+    requires some { 1 ≤ rate }
     requires limit { rate ≤ 240 }
     requires room { 9 * (rate + 1) ≤ length row.now }
     requires still { IsStill rate row.now turn tint }

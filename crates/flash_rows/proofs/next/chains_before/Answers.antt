@@ -5,10 +5,10 @@ use Rattle.flash_rows.specs.Starts.{IsLatest}
 use Rattle.flash_rows.proofs.RowLemmas.{ended-later}
 use Rattle.flash_rows.proofs.next.chains_before.Goals as goal
 
-read : (row : List ℕ) (rate turn place i number : ℕ) → place ≡ (turn - 1) % (rate + 1) → number ≡ byte (get_or row (9 * place) 0) i
-    → byte (get_or row (9 * ((turn - 1) % (rate + 1)) + 0) 0) i ≡ number
+read : (row : List ℕ) (rate turn place i number : ℕ) → place ≡ (turn - 1) % rate → number ≡ byte (get_or row (9 * place) 0) i
+    → byte (get_or row (9 * ((turn - 1) % rate) + 0) 0) i ≡ number
 read row rate turn place i number at is =
-    let index : 9 * ((turn - 1) % (rate + 1)) + 0 ≡ 9 * place = omega (arith, at) in
+    let index : 9 * ((turn - 1) % rate) + 0 ≡ 9 * place = omega (arith, at) in
     ap (λ k. byte (get_or row k 0) i) index ∙ sym is
 
 pub returns-clause-possible : goal.returns-clause-possible

@@ -14,7 +14,7 @@ pub returns : goal.returns
 returns c tints count stands =
     let rate : ℕ = c.args.rate in
     let turn : ℕ = c.args.turn in
-    let all : List Tint = tints ++ c.args.tint ∷ [] in
+    let all : List Tint = tints ++ c.args.next.now.tint ∷ [] in
     let latest = c.latest_starts-latest.result in
     let are = λ (change : Change). c.latest_starts-latest.ensures.starts change tints count stands in
     let words : ChangeWords = record {
@@ -27,8 +27,8 @@ returns c tints count stands =
       sure_into = c.word-7.result;
       sure_out = c.word-8.result;
     } in
-    words-tell rate turn all c.args.tint c.first_word.result words (record {
-      last = last-is tints c.args.tint turn count;
+    words-tell rate turn all c.args.next.now.tint c.first_word.result words (record {
+      last = last-is tints c.args.next.now.tint turn count;
       holds = c.first_word.ensures.tint;
       rises = word-starts rate turn all PossibleRise (numbers_of latest.light.up) words.rise (are PossibleRise) c.word.ensures;
       falls = word-starts rate turn all PossibleFall (numbers_of latest.light.down) words.fall (are PossibleFall) c.word-2.ensures;
@@ -38,12 +38,12 @@ returns c tints count stands =
       goes_out = word-starts rate turn all PossiblyOutOfRed (numbers_of latest.red.down) words.out (are PossiblyOutOfRed) c.word-6.ensures;
       surely_in = word-starts rate turn all SurelyIntoRed (numbers_of latest.red.surely_up) words.sure_into (are SurelyIntoRed) c.word-7.ensures;
       surely_out = word-starts rate turn all SurelyOutOfRed (numbers_of latest.red.surely_down) words.sure_out (are SurelyOutOfRed) c.word-8.ensures;
-      possible = ended-more rate turn false tints c.args.tint c.chains_before-ended.result.possible c.last.result c.last-2.result c.last-3.result
+      possible = ended-more rate turn false tints c.args.next.now.tint c.chains_before-ended.result.possible c.last.result c.last-2.result c.last-3.result
           c.last-4.result _ PossibleRise PossiblyIntoRed possible-sort (sym count) (c.first_word.ensures.possible ∙ c.least-possible.ensures)
           (c.chains_before-ended.ensures.possible tints count stands) (subst (IsLatest (EndsWith PossibleRise all 8 turn) rate turn) (sym c.last.ensures) (are PossibleRise 7 (omega arith)))
           (subst (IsLatest (EndsWith PossibleFall all 8 turn) rate turn) (sym c.last-2.ensures) (are PossibleFall 7 (omega arith))) (subst (IsLatest (EndsWith PossiblyIntoRed all 8 turn) rate turn) (sym c.last-3.ensures) (are PossiblyIntoRed 7 (omega arith)))
           (subst (IsLatest (EndsWith PossiblyOutOfRed all 8 turn) rate turn) (sym c.last-4.ensures) (are PossiblyOutOfRed 7 (omega arith)));
-      sure = ended-more rate turn true tints c.args.tint c.chains_before-ended.result.sure c.last-5.result c.last-6.result c.last-7.result
+      sure = ended-more rate turn true tints c.args.next.now.tint c.chains_before-ended.result.sure c.last-5.result c.last-6.result c.last-7.result
           c.last-8.result _ SureRise SurelyIntoRed sure-sort (sym count) (c.first_word.ensures.sure ∙ c.least-sure.ensures)
           (c.chains_before-ended.ensures.sure tints count stands) (subst (IsLatest (EndsWith SureRise all 8 turn) rate turn) (sym c.last-5.ensures) (are SureRise 7 (omega arith)))
           (subst (IsLatest (EndsWith SureFall all 8 turn) rate turn) (sym c.last-6.ensures) (are SureFall 7 (omega arith)))

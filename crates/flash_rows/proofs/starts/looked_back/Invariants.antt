@@ -5,12 +5,12 @@ use Rattle.flash_rows.specs.Pushing.{AreSmall, latest_of}
 use Rattle.flash_rows.specs.Rows.{StandsFor}
 use Rattle.flash_rows.specs.Starts.{IsLatest}
 use Rattle.flash_rows.proofs.RowLemmas.{Back}
-use Rattle.flash_rows.proofs.starts.latest_starts.Given as goal
+use Rattle.flash_rows.proofs.starts.looked_back.Given as goal
 
 abbrev pub invariant-loop-age : goal.invariant-loop-age
 invariant-loop-age l =
-    (l.place ≡ (l.turn + 1 - l.age) % (l.rate + 1))
+    (l.place ≡ (l.turn + 1 - l.age) % l.rate)
     × (l.place < l.window)
     × AreSmall l.best
     × ((change : Change) (tints : List Tint) → length tints ≡ l.turn → StandsFor l.rate tints l.row → (n : ℕ) → n < 8
-    → IsLatest (Back change (tints ++ l.fn.tint ∷ []) n (l.turn + 1 - l.age) l.turn) l.rate l.turn (get_or (latest_of change l.best) n 0))
+    → IsLatest (Back change (tints ++ l.next.tint ∷ []) n (l.turn + 1 - l.age) l.turn) l.rate l.turn (get_or (latest_of change l.best) n 0))
