@@ -1,10 +1,10 @@
 -- The tints that a tracker looks back on, and what a flag tells of them.
-use Rattle.std.specs.Prelude.{ℕ, ◌≡◌, ◌↔◌, ◌-◌, ◌+◌, ◌≤◌, IsTrue, [], ◌∷◌, ◌++◌, List, length, drop, map, min}
+use Rattle.std.specs.Prelude.{ℕ, ◌≡◌, ◌↔◌, ◌-◌, ◌+◌, ◌%◌, ◌<◌, ◌≤◌, IsTrue, Some, [], ◌∷◌, ◌++◌, List, length, drop, map, min, slice_get, slice_index_or}
 use Rattle.std.specs.List.{range_with_len}
 use Rattle.page_model.specs.declared.colour.Tint.{Tint}
 use Rattle.flash_count.specs.declared.tracking.Flag.{Flag}
 use Rattle.flash_count.specs.Chains.{HasPossibleChain, HasSureChain}
-use Rattle.flash_rows.specs.Rows.{StandsFor, tint_in, words_at}
+use Rattle.flash_rows.specs.Rows.{StandsFor}
 
 -- the last items of a list, so many or all
 abbrev pub last_of : {C : Type 0} → ℕ → List C → List C
@@ -37,16 +37,29 @@ pushed tint old = record {
 abbrev pub tracked_after : ℕ → List Tint → Tracked
 tracked_after rate tints = record { rate = rate; count = length tints; recent = last_of (rate + 1) tints }
 
--- the last tints of which a row tells, after so many
-abbrev pub tints_in : ℕ → ℕ → List ℕ → List Tint
-tints_in rate count row =
-    map (λ frame. tint_in (words_at rate row frame 0)) (range_with_len (count - min count (rate + 1)) (min count (rate + 1)))
+abbrev pub black : Tint
+black = record { lo = record { r = 0; g = 0; b = 0 }; hi = record { r = 0; g = 0; b = 0 } }
 
--- a row stands for tints, so many, and a flag tells of the last of them
-pub record KeepsTrack (rate count : ℕ) (row : List ℕ) (flag : Flag) : Type 0 where
+-- the tint of a frame in a ring of one more than the rate
+abbrev pub tint_at : ℕ → List Tint → ℕ → Tint
+tint_at rate ring frame = slice_index_or ring (frame % (rate + 1)) black
+
+-- the last tints in a ring, after so many
+abbrev pub tints_in : ℕ → ℕ → List Tint → List Tint
+tints_in rate count ring = map (tint_at rate ring) (range_with_len (count - min count (rate + 1)) (min count (rate + 1)))
+
+-- a ring holds the last of these tints
+pub record HoldsLast (rate : ℕ) (tints ring : List Tint) : Type 0 where
+  pub room : rate + 1 ≤ length ring
+  pub each : (frame : ℕ) → frame < length tints → length tints ≤ frame + rate + 1
+      → slice_get tints frame ≡ Some (tint_at rate ring frame)
+
+-- a row stands for tints, so many, a ring holds the last of them, and a flag tells of these
+pub record KeepsTrack (rate count : ℕ) (row : List ℕ) (ring : List Tint) (flag : Flag) : Type 0 where
   pub some : 1 ≤ rate
   pub limit : rate ≤ 240
   pub tints : List Tint
   pub are : length tints ≡ count
   pub stands : StandsFor rate tints row
-  pub tells : Tells (tints_in rate count row) flag
+  pub holds : HoldsLast rate tints ring
+  pub tells : Tells (tints_in rate count ring) flag

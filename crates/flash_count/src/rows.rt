@@ -1,15 +1,17 @@
 // Rows of words that stand for the tints of a pixel, and one push into them.
 ghost use Rattle.std.specs.Prelude.{ℕ, List, ◌≡◌, ◌⊎◌, ◌↔◌, IsTrue, ◌+◌, ◌*◌, ◌^◌, ◌<◌, ◌≤◌, ◌++◌, ◌∷◌, [], length, slice_index};
 ghost use Rattle.page_model.specs.declared.colour.Tint.{Tint};
+ghost use Rattle.flash_rows.specs.Bounds.{bounds_at};
 ghost use Rattle.flash_rows.specs.Rows.{StandsFor, byte};
 ghost use Rattle.flash_count.specs.Tracked.{Tells, last_of};
 
 use crate::tracking::Flag;
 use byte_lanes::bytes_of;
-use flash_rows::next_words;
+use flash_rows::{Bounds, next_words};
 use page_model::Tint;
 
-/// How many words a row has for a rate in frames per second: nine for each frame of a window.
+/// How many words a row has for a rate in frames per second: nine for each frame that a window looks back on, and as
+/// many behind them, of which three hold the bounds of the tints.
 pub fn row_words(rate: u16) -> u32
     requires some { 1 ≤ rate }
     requires limit { rate ≤ 240 }
@@ -40,6 +42,19 @@ fn put(row: &mut [u64], place: usize, words: &[u64; 9])
     }
 }
 
+/// Writes the bounds of the last tints behind the words of the frames.
+fn put_bounds(row: &mut [u64], rate: u16, bounds: Bounds)
+    requires { 9 * (rate + 1) ≤ length row.old }
+    ensures long { length row.new ≡ length row.old }
+    ensures there { bounds_at rate row.new ≡ bounds }
+    ensures others { (i : ℕ) → i < 9 * rate → slice_index row.new i ≡ slice_index row.old i }
+{
+    let place = 9 * usize::from(rate);
+    row[place] = bounds.least;
+    row[place + 1] = bounds.greatest;
+    row[place + 2] = bounds.mark;
+}
+
 /// The flag by a frame's first word.
 fn flag_in(word: u64, rate: u16) -> Flag
     ensures possible { IsTrue result.possible ↔ (byte word 6 ≤ rate) }
@@ -63,7 +78,8 @@ pub fn row_push(row: &mut [u64], rate: u16, turn: u32, tint: Tint) -> Flag
     ensures stands { (tints : List Tint) → length tints ≡ turn → StandsFor rate tints row.old → StandsFor rate (tints ++ tint ∷ []) row.new }
     ensures flag { (tints : List Tint) → length tints ≡ turn → StandsFor rate tints row.old → Tells (last_of (rate + 1) (tints ++ tint ∷ [])) result }
 {
-    let words = next_words(row, rate, turn, tint);
-    put(row, turn as usize % (usize::from(rate) + 1), &words);
-    flag_in(words[0], rate)
+    let next = next_words(row, rate, turn, tint);
+    put(row, turn as usize % usize::from(rate), &next.words);
+    put_bounds(row, rate, next.bounds);
+    flag_in(next.words[0], rate)
 }

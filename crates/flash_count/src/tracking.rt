@@ -4,11 +4,19 @@ ghost use Rattle.flash_count.specs.Chains.{HasPossibleChain, HasSureChain};
 ghost use Rattle.flash_count.specs.Tracked.{pushed, untracked};
 
 use crate::rows::{row_begin, row_push};
-use page_model::Tint;
+use page_model::{Rgb, Tint};
 use std::marker::Model;
 
-/// The most words that a row has: nine for each frame of a window at the greatest rate.
-const MOST_WORDS: usize = 9 * 241;
+/// The most frames of a window, at the greatest rate.
+const MOST_FRAMES: usize = 241;
+
+/// The most words that a row has.
+const MOST_WORDS: usize = 9 * MOST_FRAMES;
+
+const BLACK: Tint = Tint {
+    lo: Rgb { r: 0, g: 0, b: 0 },
+    hi: Rgb { r: 0, g: 0, b: 0 },
+};
 
 /// Whether a window has more than three flashes, possibly and surely.
 #[derive(Clone, Copy, Debug, PartialEq, Eq)]
@@ -23,6 +31,8 @@ pub struct Tracker {
     rate: u16,
     count: u32,
     row: [u64; MOST_WORDS],
+    /// The tints of the last frames, each at the place of its number in a ring of one more than the rate.
+    tints: [Tint; MOST_FRAMES],
     flag: Flag,
 }
 
@@ -31,9 +41,9 @@ impl Model for Tracker {
 
     ghost Value = { Tracked };
 
-    ghost view = { λ t. record { rate = t.rate; count = t.count; recent = tints_in t.rate t.count t.row } };
+    ghost view = { λ t. record { rate = t.rate; count = t.count; recent = tints_in t.rate t.count t.tints } };
 
-    ghost invariant = { λ t. KeepsTrack t.rate t.count t.row t.flag };
+    ghost invariant = { λ t. KeepsTrack t.rate t.count t.row t.tints t.flag };
 }
 
 impl Tracker {
@@ -49,6 +59,7 @@ impl Tracker {
             rate,
             count: 0,
             row,
+            tints: [BLACK; MOST_FRAMES],
             flag: Flag {
                 possible: false,
                 sure: false,
@@ -62,6 +73,7 @@ impl Tracker {
         ensures { self.new ≡ pushed tint self.old }
     {
         self.flag = row_push(&mut self.row, self.rate, self.count, tint);
+        self.tints[self.count as usize % (usize::from(self.rate) + 1)] = tint;
         self.count += 1;
     }
 

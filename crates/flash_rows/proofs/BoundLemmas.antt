@@ -1,6 +1,6 @@
 -- Bounds of the last tints: with a tint more they are wider, and where the next tint is near all within them, no change leads to it.
-use Rattle.std.proofs.Common.{ℕ, zero, suc, ◌≡◌, ◌∙◌, ◌+◌, ◌-◌, ◌*◌, ◌^◌, ◌<◌, ◌≤◌, Bool, true, false, List, [], ◌∷◌, ◌++◌, length, get_or, slice_get, Some, arith, inl, inr, refl, subst, sym, ap, length-append}
-use Rattle.std.specs.Prelude.{max, min}
+use Rattle.std.proofs.Common.{ℕ, zero, suc, ◌≡◌, ◌∙◌, ◌+◌, ◌-◌, ◌<◌, ◌≤◌, Bool, true, false, List, [], ◌∷◌, ◌++◌, length, slice_get, Some, arith, inl, inr, refl, subst, sym, ap, length-append}
+use Rattle.std.specs.Prelude.{max}
 use Rattle.std.proofs.Math.Nat.{le-max_left, le-max_right}
 use Rattle.std.proofs.lemmas.Bool.{cases_lt}
 use Rattle.std.proofs.lemmas.Option.{slice_get_within}
@@ -14,7 +14,7 @@ use Rattle.tint_changes.specs.declared.made.NextTint.{NextTint}
 use Rattle.tint_changes.specs.Counting.{Makes, MakesAt}
 use Rattle.tint_changes.specs.Made.{IsKnown}
 use Rattle.flash_rows.specs.declared.bounds.Bounds.{Bounds}
-use Rattle.flash_rows.specs.Bounds.{AreWithin, IsNearAll, LiesWithin, bounds_at, bounds_before, mark_with, widened}
+use Rattle.flash_rows.specs.Bounds.{AreWithin, IsNearAll, LiesWithin, bounds_before, mark_with, widened}
 use Rattle.flash_rows.specs.Rows.{EndsWith, StandsFor, opposite_of}
 use Rattle.flash_rows.specs.Starts.{IsLatest}
 use Rattle.flash_rows.proofs.ListLemmas.{slice_get-end, slice_get-front}

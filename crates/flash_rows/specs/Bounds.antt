@@ -1,6 +1,6 @@
 -- Between which bounds the tints of a row lie: the least and the greatest luminance of their ends, and a mark that is 0 only where no
 -- corner of them is saturated. They stand in a row behind the words of its frames.
-use Rattle.std.specs.Prelude.{ℕ, zero, suc, ◌≡◌, ◌+◌, ◌-◌, ◌*◌, ◌^◌, ◌<◌, ◌≤◌, Bool, true, false, Some, List, length, max, min, slice_get, slice_index, if◌then◌else◌}
+use Rattle.std.specs.Prelude.{ℕ, zero, suc, ◌≡◌, ◌+◌, ◌-◌, ◌*◌, ◌^◌, ◌<◌, ◌≤◌, Bool, true, false, Some, List, length, max, min, slice_get, slice_index}
 use Rattle.page_model.specs.declared.colour.Tint.{Tint}
 use Rattle.page_model.specs.Change.{HasSaturated}
 use Rattle.page_model.specs.Light.{luma_of}

@@ -1,7 +1,7 @@
 -- Rows of words that stand for the tints of a pixel. Of each of the last frames of a list, as many as the rate or all, a row holds
 -- nine words side by side, and behind them the bounds between which their tints lie. The first has the frame's tint in its six lower bytes. Each other belongs to a change: its eight bytes say,
 -- for one change up to eight, where the latest chain of so many changes starts that ends at the frame, and ends with this change.
-use Rattle.std.specs.Prelude.{ℕ, zero, suc, ◌≡◌, ◌+◌, ◌*◌, ◌%◌, ◌<◌, ◌≤◌, Bool, false, true, Some, List, length, slice_get, slice_index}
+use Rattle.std.specs.Prelude.{ℕ, ◌≡◌, ◌+◌, ◌*◌, ◌%◌, ◌<◌, ◌≤◌, Bool, false, true, Some, List, length, slice_get, slice_index}
 pub use Rattle.byte_lanes.specs.Bytes.{byte, number_of}
 use Rattle.page_model.specs.declared.colour.Tint.{Tint}
 use Rattle.tint_changes.specs.declared.changes.Change.{Change}

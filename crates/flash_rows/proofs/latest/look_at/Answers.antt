@@ -1,9 +1,6 @@
 -- Each change that is made is among those of luminance or of red.
-use Rattle.std.proofs.Common.{subst, get_or, ◌*◌, ◌+◌}
-use Rattle.page_model.specs.declared.colour.Tint.{Tint}
+use Rattle.std.proofs.Common.{get_or, ◌*◌}
 use Rattle.flash_rows.specs.declared.latest.Latest.{Latest}
-use Rattle.tint_changes.specs.Counting.{Makes}
-use Rattle.flash_rows.specs.Pushing.{LoweredIf, latest_of}
 use Rattle.flash_rows.specs.Rows.{tint_in}
 use Rattle.flash_rows.proofs.LowerLemmas.{lowered-by}
 use Rattle.flash_rows.proofs.latest.look_at.Goals as goal

@@ -1,10 +1,7 @@
 -- The words and the bounds, as the row has them or anew.
-use Rattle.std.proofs.Common.{◌≡◌, ◌∙◌, ◌+◌, ◌-◌, ap, arith, subst, sym, Some, List, [], ◌∷◌, ◌++◌}
-use Rattle.page_model.specs.declared.colour.Tint.{Tint}
-use Rattle.tint_changes.specs.declared.made.NextTint.{NextTint}
+use Rattle.std.proofs.Common.{◌∙◌, ◌-◌, ap, arith, subst, sym, Some, [], ◌∷◌, ◌++◌}
 use Rattle.flash_rows.specs.declared.bounds.Bounds.{Bounds}
-use Rattle.flash_rows.specs.Bounds.{AreWithin, bounds_before, widened}
-use Rattle.flash_rows.specs.Pushing.{TellAfter}
+use Rattle.flash_rows.specs.Bounds.{AreWithin}
 use Rattle.flash_rows.proofs.BoundLemmas.{within-before, within-kept, within-more}
 use Rattle.flash_rows.proofs.next.next_words.Goals as goal
 

@@ -1,8 +1,7 @@
 -- The look back, frame by frame.
 use Rattle.std.proofs.Common.{ℕ, ◌≡◌, ◌∙◌, ◌+◌, ◌-◌, ◌%◌, [], ◌∷◌, ◌++◌, get_or, arith, inl, inr, sym, ap, subst}
-use Rattle.page_model.specs.declared.colour.Tint.{Tint}
 use Rattle.flash_rows.specs.declared.latest.Latest.{Latest}
-use Rattle.flash_rows.specs.Pushing.{Looked, latest_of}
+use Rattle.flash_rows.specs.Pushing.{latest_of}
 use Rattle.flash_rows.specs.Starts.{IsLatest}
 use Rattle.flash_rows.proofs.PassLemmas.{starts-passed}
 use Rattle.flash_rows.proofs.RowLemmas.{Back, starts-all, starts-none, starts-step}
