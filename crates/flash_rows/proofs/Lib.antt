@@ -4,5 +4,6 @@ pub mod LowerLemmas
 pub mod PassLemmas
 pub mod RedLemmas
 pub mod RowLemmas
+pub mod RunLemmas
 pub mod StartLemmas
 pub mod StillLemmas

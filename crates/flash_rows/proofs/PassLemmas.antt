@@ -1,12 +1,11 @@
 -- A frame with the tint of the one behind it may be passed over: what leads to it leads to that one too.
-use Rattle.std.proofs.Common.{ℕ, zero, suc, ◌≡◌, ◌∙◌, ◌+◌, ◌-◌, ◌*◌, ◌%◌, ◌<◌, ◌≤◌, List, [], ◌∷◌, ◌++◌, length, get_or, slice_get, Some, arith, inl, inr, refl, subst, sym, ap}
+use Rattle.std.proofs.Common.{ℕ, zero, suc, ◌≡◌, ◌∙◌, ◌+◌, ◌-◌, ◌<◌, ◌≤◌, List, slice_get, arith, inl, inr, refl, subst, sym}
 use Rattle.std.proofs.lemmas.Bool.{cases_lt}
 use Rattle.page_model.specs.declared.colour.Tint.{Tint}
 use Rattle.tint_changes.specs.declared.changes.Change.{Change}
 use Rattle.tint_changes.specs.Counting.{MakesAt}
-use Rattle.flash_rows.specs.Rows.{StandsFor, opposite_of, tint_in}
+use Rattle.flash_rows.specs.Rows.{HasRun, opposite_of}
 use Rattle.flash_rows.specs.Starts.{IsLatest, Leads}
-use Rattle.flash_rows.proofs.ListLemmas.{slice_get-front}
 use Rattle.flash_rows.proofs.RowLemmas.{Back}
 use Rattle.flash_rows.proofs.StartLemmas.{Through, latest-same}
 
@@ -30,29 +29,12 @@ through-passed R S n frame next end window best at inside from to =
           (led.0, led.1, (next, omega arith, inside, from (subst (λ m. R m end) there through.3), led.2))
     ])
 
--- the tint of a frame by its place in the row
-tint-at : (rate frame place : ℕ) (tints : List Tint) (row : List ℕ) → StandsFor rate tints row → frame < length tints
-    → length tints ≤ frame + rate → place ≡ frame % rate → slice_get tints frame ≡ Some (tint_in (get_or row (9 * place) 0))
-tint-at rate frame place tints row stands below near at =
-    let index : 9 * (frame % rate) + 0 ≡ 9 * place = omega (arith, at) in
-    (stands.tells frame below near).tint ∙ ap (λ i. Some (tint_in (get_or row i 0))) index
-
--- so the numbers stay
-pub starts-passed : (rate age turn behind place : ℕ) (tints : List Tint) (tint : Tint) (row : List ℕ) (change : Change) (n number : ℕ)
-    → length tints ≡ turn → StandsFor rate tints row → 1 < age → age ≤ turn → age ≤ rate → behind ≡ (turn + 1 - age) % rate
-    → place ≡ (turn - age) % rate → tint_in (get_or row (9 * behind) 0) ≡ tint_in (get_or row (9 * place) 0)
-    → IsLatest (Back change (tints ++ tint ∷ []) n (turn + 1 - age) turn) rate turn number
-    → IsLatest (Back change (tints ++ tint ∷ []) n (turn - age) turn) rate turn number
-starts-passed rate age turn behind place tints tint row change n number count stands some within near at_next at_frame alike =
-    let all : List Tint = tints ++ tint ∷ [] in
-    let frame : ℕ = turn - age in
-    let next : ℕ = turn + 1 - age in
-    let here = tint-at rate frame place tints row stands (omega (arith, count)) (omega (arith, count)) at_frame in
-    let there = tint-at rate next behind tints row stands (omega (arith, count)) (omega (arith, count)) at_next in
-    let same : slice_get all frame ≡ slice_get all next =
-    slice_get-front tints (tint ∷ []) frame (omega (arith, count)) ∙ here ∙ ap Some (sym alike) ∙ sym there
-    ∙ sym (slice_get-front tints (tint ∷ []) next (omega (arith, count))) in
-    through-passed (MakesAt change all) (MakesAt (opposite_of change) all) n frame next turn rate number (omega arith) (omega arith)
+-- so the numbers stay for all frames with the tint of the one behind them
+passed-one : (all : List Tint) (change : Change) (n frame next turn window number : ℕ) → frame + 1 ≡ next → next < turn
+    → slice_get all frame ≡ slice_get all next → IsLatest (Back change all n next turn) window turn number
+    → IsLatest (Back change all n frame turn) window turn number
+passed-one all change n frame next turn window number at inside same =
+    through-passed (MakesAt change all) (MakesAt (opposite_of change) all) n frame next turn window number at inside
     (λ made. record {
       earlier = made.earlier;
       later = made.later;
@@ -67,3 +49,12 @@ starts-passed rate age turn behind place tints tint row change n number count st
       is_later = sym same ∙ made.is_later;
       changes = made.changes;
     })
+
+pub starts-passed : (all : List Tint) (change : Change) (n frame turn window number run back : ℕ) → frame < turn → HasRun all frame run
+    → back < run → IsLatest (Back change all n frame turn) window turn number → IsLatest (Back change all n (frame - back) turn) window turn number
+starts-passed all change n frame turn window number run zero inside has few before =
+    let same : frame ≡ frame - 0 = omega arith in subst (λ low. IsLatest (Back change all n low turn) window turn number) same before
+starts-passed all change n frame turn window number run (suc back) inside has few before =
+    passed-one all change n (frame - suc back) (frame - back) turn window number (omega (arith, has.inside)) (omega (arith, has.inside))
+    (has.alike (suc back) few ∙ sym (has.alike back (omega arith)))
+    (starts-passed all change n frame turn window number run back inside has (omega arith) before)

@@ -9,10 +9,12 @@ use Rattle.page_model.specs.declared.colour.Tint.{Tint}
 use Rattle.tint_changes.specs.declared.changes.Change.{Change}
 use Rattle.tint_changes.specs.declared.changes.Change.TheVariants.{PossibleRise, PossibleFall, SureRise, SureFall, PossiblyIntoRed, PossiblyOutOfRed, SurelyIntoRed, SurelyOutOfRed}
 use Rattle.tint_changes.specs.Counting.{Makes, MakesAt}
-use Rattle.flash_rows.specs.Rows.{EndsBefore, EndsWith, StandsFor, TellsOf, byte, column_of, is_sure, number_of, opposite_of, tint_in, words_at}
+use Rattle.flash_rows.specs.declared.ended.Ended.{Ended}
+use Rattle.flash_rows.specs.declared.latest.Latest.{Latest}
+use Rattle.flash_rows.specs.Rows.{AreEnded, EndsBefore, EndsWith, HasRun, StandsFor, TellsOf, byte, column_of, ended_in, is_sure, number_of, opposite_of, tint_in, words_at}
 use Rattle.flash_rows.specs.declared.bounds.Bounds.{Bounds}
 use Rattle.flash_rows.specs.Bounds.{AreWithin, bounds_at}
-use Rattle.flash_rows.specs.Pushing.{LoweredIf}
+use Rattle.flash_rows.specs.Pushing.{HaveStarts, LoweredIf, latest_of}
 use Rattle.flash_rows.specs.Starts.{IsLatest, Leads}
 use Rattle.tint_changes.proofs.ChainLemmas.{change-within}
 use Rattle.flash_rows.proofs.ListLemmas.{slice_get-end, slice_get-front}
@@ -114,16 +116,25 @@ latest_before-grown sure tints tint limit window frame number within =
     (λ s ends. before-grown sure tints tint limit s ends)
     (λ s ends near. (s, omega arith, before-shrunk sure tints tint limit s within ends))
 
+-- of so many frames the tint is the same also where a tint is added
+pub run-grown : (tints : List Tint) (tint : Tint) (frame run : ℕ) → frame < length tints → HasRun tints frame run
+    → HasRun (tints ++ tint ∷ []) frame run
+run-grown tints tint frame run below has = record {
+  some = has.some;
+  inside = has.inside;
+  alike = λ back few.
+      slice_get-front tints (tint ∷ []) (frame - back) (omega arith) ∙ has.alike back few ∙ sym (slice_get-front tints (tint ∷ []) frame below);
+}
+
 -- other words tell the same of a frame where they are the same
 tells-same : (rate : ℕ) (tints : List Tint) (frame : ℕ) (f g : ℕ → ℕ) → ((i : ℕ) → i < 9 → f i ≡ g i) → TellsOf rate tints frame f
     → TellsOf rate tints frame g
 tells-same rate tints frame f g same tells = record {
   tint = tells.tint ∙ ap (λ w. Some (tint_in w)) (same 0 (omega arith));
+  run = subst (λ w. HasRun tints frame (byte w 6)) (same 0 (omega arith)) tells.run;
   starts = λ change n few.
       subst (λ w. IsLatest (EndsWith change tints n frame) rate frame (number_of w n)) (same (column_of change) (column-below change))
       (tells.starts change n few);
-  possible = subst (λ w. IsLatest (EndsBefore false tints (frame + 1)) rate frame (byte w 6)) (same 0 (omega arith)) tells.possible;
-  sure = subst (λ w. IsLatest (EndsBefore true tints (frame + 1)) rate frame (byte w 7)) (same 0 (omega arith)) tells.sure;
 }
 
 -- and what they tell they tell also where a tint is added
@@ -131,10 +142,9 @@ tells-grown : (rate : ℕ) (tints : List Tint) (tint : Tint) (frame : ℕ) (f g 
     → ((i : ℕ) → i < 9 → f i ≡ g i) → TellsOf rate tints frame f → TellsOf rate (tints ++ tint ∷ []) frame g
 tells-grown rate tints tint frame f g below same tells = tells-same rate (tints ++ tint ∷ []) frame f g same (record {
   tint = slice_get-front tints (tint ∷ []) frame below ∙ tells.tint;
+  run = run-grown tints tint frame (byte (f 0) 6) below tells.run;
   starts = λ change n few.
       latest-grown change tints tint n rate frame (number_of (f (column_of change)) n) below (tells.starts change n few);
-  possible = latest_before-grown false tints tint (frame + 1) rate frame (byte (f 0) 6) (omega arith) tells.possible;
-  sure = latest_before-grown true tints tint (frame + 1) rate frame (byte (f 0) 7) (omega arith) tells.sure;
 })
 
 -- the starts of one change more, by way of a frame from some frame on
@@ -223,20 +233,25 @@ pub starts-all : (rate turn : ℕ) (tints : List Tint) (tint : Tint) (change : C
 starts-all rate turn tints tint change n low number far is =
     through-all (MakesAt change (tints ++ tint ∷ [])) (MakesAt (opposite_of change) (tints ++ tint ∷ [])) n low turn rate number far is
 
--- the chains that ended before are seen from a frame later
-pub ended-none : (rate turn : ℕ) (sure : Bool) (tints : List Tint) (number : ℕ) → turn ≡ 0 → number ≡ rate + 1
-    → IsLatest (EndsBefore sure tints turn) rate turn number
-ended-none rate turn sure tints number first is =
-    subst (IsLatest (EndsBefore sure tints turn) rate turn) (sym is)
-    (latest-none (EndsBefore sure tints turn) rate turn (λ s ends. omega (arith, ends.before)))
+-- before the first frame no chain ended, and those that ended are seen from a frame later
+pub ended-none : (rate : ℕ) (sure : Bool) (number : ℕ) → number ≡ rate + 1 → IsLatest (EndsBefore sure [] 0) rate 0 number
+ended-none rate sure number is =
+    subst (IsLatest (EndsBefore sure [] 0) rate 0) (sym is)
+    (latest-none (EndsBefore sure [] 0) rate 0 (λ s ends. omega (arith, ends.before)))
 
-pub ended-later : (rate turn : ℕ) (sure : Bool) (tints : List Tint) (before number : ℕ) → 0 < turn → number ≡ min (before + 1) (rate + 1)
-    → IsLatest (EndsBefore sure tints (turn - 1 + 1)) rate (turn - 1) before → IsLatest (EndsBefore sure tints turn) rate turn number
-ended-later rate turn sure tints before number some is here =
-    let at : turn - 1 + 1 ≡ turn = omega arith in
-    subst (IsLatest (EndsBefore sure tints turn) rate turn) (sym is)
-    (latest-later (EndsBefore sure tints turn) rate (turn - 1) turn 1 before
-    (subst (λ m. IsLatest (EndsBefore sure tints m) rate (turn - 1) before) at here) at)
+pub ended-later : (rate turn next : ℕ) (sure : Bool) (all : List Tint) (before number : ℕ) → next ≡ turn + 1
+    → number ≡ min (before + 1) (rate + 1) → IsLatest (EndsBefore sure all (turn + 1)) rate turn before
+    → IsLatest (EndsBefore sure all next) rate next number
+ended-later rate turn next sure all before number at is here =
+    subst (IsLatest (EndsBefore sure all next) rate next) (sym is)
+    (latest-later (EndsBefore sure all next) rate turn next 1 before
+    (subst (λ m. IsLatest (EndsBefore sure all m) rate turn before) (sym at) here) (sym at))
+
+-- what a row has of them, by the number of its tints
+pub ended-known : (rate turn : ℕ) (tints : List Tint) (word : ℕ) (ended : Ended) → length tints ≡ turn → ended ≡ ended_in word
+    → AreEnded rate tints (length tints) (length tints) (ended_in word) → AreEnded rate tints turn turn ended
+ended-known rate turn tints word ended count is are =
+    subst (λ (e : Ended). AreEnded rate tints turn turn e) (sym is) (subst (λ t. AreEnded rate tints t t (ended_in word)) count are)
 
 -- a change is one of two, or the opposite of one of them
 abbrev pub IsOneOf : Change → Change → Change → Type 0
@@ -354,12 +369,14 @@ mod-apart j k window before near same =
     ]
 
 -- a row with the words of the next frame in their place, and behind all words the bounds of the last tints
-pub row-pushed : (rate turn : ℕ) (tints : List Tint) (tint : Tint) (old new words : List ℕ) (bounds : Bounds) → 1 ≤ rate → turn ≡ length tints
+pub row-pushed : (rate turn : ℕ) (tints : List Tint) (tint : Tint) (old new words : List ℕ) (bounds : Bounds) (ended : Ended) → 1 ≤ rate → turn ≡ length tints
     → StandsFor rate tints old → TellsOf rate (tints ++ tint ∷ []) turn (λ i. get_or words i 0) → AreWithin rate (tints ++ tint ∷ []) bounds
     → length new ≡ length old → ((i : ℕ) → i < 9 → get_or new (9 * (turn % rate) + i) 0 ≡ get_or words i 0)
     → ((i : ℕ) → i < 9 * rate → (i < 9 * (turn % rate)) ⊎ (9 * (turn % rate) + 9 ≤ i) → get_or new i 0 ≡ get_or old i 0)
-    → bounds_at rate new ≡ bounds → StandsFor rate (tints ++ tint ∷ []) new
-row-pushed rate turn tints tint old new words bounds some last stands next within long there others at_end = record {
+    → bounds_at rate new ≡ bounds → AreEnded rate (tints ++ tint ∷ []) (turn + 1) turn ended
+    → byte (get_or new (9 * rate + 3) 0) 0 ≡ min (ended.possible + 1) (rate + 1)
+    → byte (get_or new (9 * rate + 3) 0) 1 ≡ min (ended.sure + 1) (rate + 1) → StandsFor rate (tints ++ tint ∷ []) new
+row-pushed rate turn tints tint old new words bounds ended some last stands next within long there others at_end are possible sure = record {
   room = let before = stands.room in omega (arith, long);
   tells = λ frame below near.
       let count : length (tints ++ tint ∷ []) ≡ length tints + 1 = length-append tints (tint ∷ []) in
@@ -376,6 +393,12 @@ row-pushed rate turn tints tint old new words bounds some last stands next withi
             (tells-same rate (tints ++ tint ∷ []) turn (λ i. get_or words i 0) (words_at rate new turn) (λ i few. sym (there i few)) next)
       ];
   within = subst (λ (b : Bounds). AreWithin rate (tints ++ tint ∷ []) b) (sym at_end) within;
+  ended =
+      let all : List Tint = tints ++ tint ∷ [] in
+      let count : length all ≡ turn + 1 = length-append tints (tint ∷ []) ∙ ap (λ n. n + 1) (sym last) in record {
+        possible = ended-later rate turn (length all) false all ended.possible _ count possible are.possible;
+        sure = ended-later rate turn (length all) true all ended.sure _ count sure are.sure;
+      };
 } where
   aside : (p q i : ℕ) → i < 9 → (p ≡ q → ⊥) → (9 * p + i < 9 * q) ⊎ (9 * q + 9 ≤ 9 * p + i)
   aside p q i few apart = elim (cases_lt p q) [
@@ -385,14 +408,6 @@ row-pushed rate turn tints tint old new words bounds some last stands next withi
       | inr same ↦ let e : p ≡ q = omega arith in absurd (apart e)
     ]
   ]
-
--- a word has the numbers of a change
-pub word-starts : (rate turn : ℕ) (all : List Tint) (change : Change) (starts : List ℕ) (word : ℕ)
-    → ((n : ℕ) → n < 8 → IsLatest (EndsWith change all (suc n) turn) rate turn (get_or starts n 0))
-    → ((i : ℕ) → i < 8 → byte word i ≡ get_or starts i 0) → (n : ℕ) → n ≤ 8 → IsLatest (EndsWith change all n turn) rate turn (number_of word n)
-word-starts rate turn all change starts word are is zero few = latest-self rate turn
-word-starts rate turn all change starts word are is (suc n) few =
-    subst (IsLatest (EndsWith change all (suc n) turn) rate turn) (sym (is n (omega arith))) (are n (omega arith))
 
 -- the words of the eight changes
 pub record ChangeWords : Type 0 where
@@ -424,16 +439,14 @@ pub record HaveNext (rate turn : ℕ) (all : List Tint) (tint : Tint) (first : �
   pub goes_out : HasStarts rate turn all PossiblyOutOfRed w.out
   pub surely_in : HasStarts rate turn all SurelyIntoRed w.sure_into
   pub surely_out : HasStarts rate turn all SurelyOutOfRed w.sure_out
-  pub possible : IsLatest (EndsBefore false all (turn + 1)) rate turn (byte first 6)
-  pub sure : IsLatest (EndsBefore true all (turn + 1)) rate turn (byte first 7)
+  pub run : HasRun all turn (byte first 6)
 
 pub words-tell : (rate turn : ℕ) (all : List Tint) (tint : Tint) (first : ℕ) (w : ChangeWords) → HaveNext rate turn all tint first w
     → TellsOf rate all turn (λ i. get_or (words_in first w) i 0)
 words-tell rate turn all tint first w have = record {
   tint = have.last ∙ ap Some (sym have.holds);
+  run = have.run;
   starts = starts;
-  possible = have.possible;
-  sure = have.sure;
 } where
   starts : (change : Change) → HasStarts rate turn all change (get_or (words_in first w) (column_of change) 0)
   starts PossibleRise = have.rises
@@ -447,3 +460,18 @@ words-tell rate turn all tint first w have = record {
 
 pub last-is : (tints : List Tint) (tint : Tint) (turn : ℕ) → length tints ≡ turn → slice_get (tints ++ tint ∷ []) turn ≡ Some tint
 last-is tints tint turn count = ap (λ k. slice_get (tints ++ tint ∷ []) k) (sym count) ∙ slice_get-end tints tint
+
+-- and by the latest starts
+pub starts-tell : (rate turn : ℕ) (all : List Tint) (tint : Tint) (run : ℕ) (latest : Latest) (words : List ℕ) → slice_get all turn ≡ Some tint
+    → HasRun all turn run → HaveStarts tint run latest words
+    → ((change : Change) (n : ℕ) → n < 8 → IsLatest (EndsWith change all (suc n) turn) rate turn (get_or (latest_of change latest) n 0))
+    → TellsOf rate all turn (λ i. get_or words i 0)
+starts-tell rate turn all tint run latest words last has have are = record {
+  tint = last ∙ ap Some (sym have.tint_is);
+  run = subst (HasRun all turn) (sym have.run_is) has;
+  starts = starts;
+} where
+  starts : (change : Change) → HasStarts rate turn all change (get_or words (column_of change) 0)
+  starts change zero few = latest-self rate turn
+  starts change (suc n) few =
+      subst (IsLatest (EndsWith change all (suc n) turn) rate turn) (sym (have.starts change n (omega arith))) (are change n (omega arith))

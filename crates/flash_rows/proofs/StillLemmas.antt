@@ -90,21 +90,20 @@ starts-kept rate last turn tints tint change n before number stays is latest =
     (subst (IsLatest (EndsWith change tints (suc n) last) rate turn) (sym is)
     (latest-later (EndsWith change tints (suc n) last) rate last turn 1 before latest stays.next))
 
-pub ended-kept : (rate last turn : ℕ) (sure : Bool) (tints : List Tint) (tint : Tint) (before number : ℕ) → StaysAt tints tint last turn
-    → number ≡ min (before + 1) (rate + 1) → IsLatest (EndsBefore sure tints (last + 1)) rate last before
-    → IsLatest (EndsBefore sure (tints ++ tint ∷ []) (turn + 1)) rate turn number
-ended-kept rate last turn sure tints tint before number stays is latest =
-    latest-same (EndsBefore sure tints (last + 1)) (EndsBefore sure (tints ++ tint ∷ []) (turn + 1)) rate turn number
+pub ended-kept : (rate last turn : ℕ) (sure : Bool) (tints : List Tint) (tint : Tint) (number : ℕ) → StaysAt tints tint last turn
+    → IsLatest (EndsBefore sure tints turn) rate turn number → IsLatest (EndsBefore sure (tints ++ tint ∷ []) (turn + 1)) rate turn number
+ended-kept rate last turn sure tints tint number stays latest =
+    latest-same (EndsBefore sure tints turn) (EndsBefore sure (tints ++ tint ∷ []) (turn + 1)) rate turn number
     (λ s ends.
-    let grown = before-grown sure tints tint (last + 1) s ends in
-    record { end = grown.end; change = grown.change; sort = grown.sort; before = omega (arith, grown.before, stays.next); ends = grown.ends })
+    let grown = before-grown sure tints tint turn s ends in
+    record { end = grown.end; change = grown.change; sort = grown.sort; before = omega (arith, grown.before); ends = grown.ends })
     (λ s ends near. (
       s,
       omega arith,
       elim (cases_lt ends.end turn) [
         | inl early ↦
-            before-shrunk sure tints tint (last + 1) s (omega (arith, stays.next, stays.count))
-            (record { end = ends.end; change = ends.change; sort = ends.sort; before = omega (arith, stays.next); ends = ends.ends })
+            before-shrunk sure tints tint turn s (omega (arith, stays.count))
+            (record { end = ends.end; change = ends.change; sort = ends.sort; before = early; ends = ends.ends })
         | inr late ↦
             let at : ends.end ≡ turn = omega (arith, ends.before) in
             let here = subst (λ e. EndsWith ends.change (tints ++ tint ∷ []) 8 e s) at ends.ends in
@@ -112,13 +111,11 @@ ended-kept rate last turn sure tints tint before number stays is latest =
               end = last;
               change = ends.change;
               sort = ends.sort;
-              before = omega arith;
+              before = omega (arith, stays.next);
               ends = ends-last ends.change tints tint last turn 7 s stays here;
             }
       ],
-    ))
-    (subst (IsLatest (EndsBefore sure tints (last + 1)) rate turn) (sym is)
-    (latest-later (EndsBefore sure tints (last + 1)) rate last turn 1 before latest stays.next))
+    )) latest
 
 -- a word of the frame before, with each number one more, has the numbers of the next frame
 pub word-kept : (rate last turn place : ℕ) (row : List ℕ) (tints : List Tint) (tint : Tint) (change : Change) (word : ℕ) → place ≡ last % rate
@@ -130,13 +127,3 @@ word-kept rate last turn place row tints tint change word at tells stays is (suc
     starts-kept rate last turn tints tint change n (byte (words_at rate row last (column_of change)) n) (byte word n) stays
     (subst (λ p. byte word n ≡ min (byte (get_or row (9 * p + column_of change) 0) n + 1) (rate + 1)) at (is n (omega arith)))
     (tells.starts change (suc n) few)
-
--- and so has its first word
-pub first-kept : (rate last turn place i before number : ℕ) (row : List ℕ) (sure : Bool) (tints : List Tint) (tint : Tint) → place ≡ last % rate
-    → IsLatest (EndsBefore sure tints (last + 1)) rate last (byte (words_at rate row last 0) i) → StaysAt tints tint last turn
-    → before ≡ byte (get_or row (9 * place) 0) i → number ≡ min (before + 1) (rate + 1)
-    → IsLatest (EndsBefore sure (tints ++ tint ∷ []) (turn + 1)) rate turn number
-first-kept rate last turn place i before number row sure tints tint at latest stays is more =
-    let index : 9 * place ≡ 9 * (last % rate) + 0 = omega (arith, at) in
-    ended-kept rate last turn sure tints tint before number stays more
-    (subst (IsLatest (EndsBefore sure tints (last + 1)) rate last) (sym (is ∙ ap (λ k. byte (get_or row k 0) i) index)) latest)

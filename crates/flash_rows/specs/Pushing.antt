@@ -1,5 +1,5 @@
 -- What a push into a row reckons, whatever tints the row stands for.
-use Rattle.std.specs.Prelude.{ℕ, suc, ◌≡◌, ◌⊎◌, ◌+◌, ◌-◌, ◌*◌, ◌<◌, Bool, IsTrue, List, [], ◌∷◌, ◌++◌, length, min, slice_index}
+use Rattle.std.specs.Prelude.{ℕ, suc, ◌≡◌, ◌⊎◌, ◌+◌, ◌-◌, ◌*◌, ◌<◌, IsTrue, List, [], ◌∷◌, ◌++◌, length, min, slice_index}
 use Rattle.page_model.specs.declared.colour.Tint.{Tint}
 use Rattle.tint_changes.specs.declared.changes.Change.{Change}
 use Rattle.tint_changes.specs.declared.changes.Change.TheVariants.{PossibleRise, PossibleFall, SureRise, SureFall, PossiblyIntoRed, PossiblyOutOfRed, SurelyIntoRed, SurelyOutOfRed}
@@ -10,8 +10,9 @@ use Rattle.tint_changes.specs.Counting.{Makes}
 use Rattle.byte_lanes.specs.Lanes.{AreBelow, numbers_of}
 use Rattle.tint_changes.specs.Made.{MadeByLight, MadeByRed}
 use Rattle.flash_rows.specs.declared.bounds.Bounds.{Bounds}
+use Rattle.flash_rows.specs.declared.ended.Ended.{Ended}
 use Rattle.flash_rows.specs.Bounds.{AreWithin}
-use Rattle.flash_rows.specs.Rows.{EndsBefore, EndsWith, StandsFor, TellsOf, column_of, number_of, opposite_of, tint_in, words_at}
+use Rattle.flash_rows.specs.Rows.{AreEnded, EndsWith, HasRun, StandsFor, TellsOf, byte, column_of, number_of, opposite_of, tint_in, words_at}
 use Rattle.flash_rows.specs.Starts.{IsLatest}
 
 -- of the eight numbers of a change, each is made no greater than that of a frame so many frames before, with one change more
@@ -69,22 +70,37 @@ LoweredBy row place tint age best least =
     (change : Change) → LoweredIf (Makes change (tint_in (slice_index row (9 * place))) tint) (latest_of change best)
     (slice_index row (9 * place + column_of (opposite_of change))) age (latest_of change least)
 
--- they are so, or else the frame has the tint of the one behind it, which is before the next one, and they stay
-abbrev pub Looked : List ℕ → ℕ → ℕ → Tint → ℕ → Latest → Latest → Type 0
-Looked row behind place tint age best least =
-    ((1 < age) × (tint_in (slice_index row (9 * behind)) ≡ tint_in (slice_index row (9 * place))) × (least ≡ best))
-    ⊎ LoweredBy row place tint age best least
-
 -- whatever tints a row stands for, as many as were pushed: the latest starts of chains that end at the next frame with a change
 abbrev pub AreStartsAfter : ℕ → List ℕ → ℕ → Tint → Change → List ℕ → Type 0
 AreStartsAfter rate row turn tint change starts =
     (tints : List Tint) → length tints ≡ turn → StandsFor rate tints row
     → (n : ℕ) → n < 8 → IsLatest (EndsWith change (tints ++ tint ∷ []) (suc n) turn) rate turn (slice_index starts n)
 
--- and that of the chains of eight changes that ended before
-abbrev pub IsEndedAfter : ℕ → List ℕ → ℕ → Bool → ℕ → Type 0
-IsEndedAfter rate row turn sure number =
-    (tints : List Tint) → length tints ≡ turn → StandsFor rate tints row → IsLatest (EndsBefore sure tints turn) rate turn number
+-- where the latest chains start that ended before, or end with one of the latest changes
+abbrev pub ended_with : Ended → Latest → Ended
+ended_with before latest = record {
+  possible = min (min (min (min before.possible (slice_index (latest_of PossibleRise latest) 7)) (slice_index (latest_of PossibleFall latest) 7))
+      (slice_index (latest_of PossiblyIntoRed latest) 7)) (slice_index (latest_of PossiblyOutOfRed latest) 7);
+  sure = min (min (min (min before.sure (slice_index (latest_of SureRise latest) 7)) (slice_index (latest_of SureFall latest) 7))
+      (slice_index (latest_of SurelyIntoRed latest) 7)) (slice_index (latest_of SurelyOutOfRed latest) 7);
+}
+
+-- those of the next frame
+abbrev pub EndedAfter : ℕ → List ℕ → ℕ → Tint → Ended → Type 0
+EndedAfter rate row turn tint ended =
+    (tints : List Tint) → length tints ≡ turn → StandsFor rate tints row → AreEnded rate (tints ++ tint ∷ []) (turn + 1) turn ended
+
+-- of how many frames up to the next one, which follow one another, its tint is the tint
+abbrev pub RunAfter : ℕ → List ℕ → ℕ → Tint → ℕ → Type 0
+RunAfter rate row turn tint run =
+    (tints : List Tint) → length tints ≡ turn → StandsFor rate tints row → HasRun (tints ++ tint ∷ []) turn run
+
+-- nine words have a tint, a number of frames, and the latest starts
+pub record HaveStarts (tint : Tint) (run : ℕ) (latest : Latest) (words : List ℕ) : Type 0 where
+  pub tint_is : tint_in (slice_index words 0) ≡ tint
+  pub run_is : byte (slice_index words 0) 6 ≡ run
+  pub starts : (change : Change) (n : ℕ) → n < 8
+      → byte (slice_index words (column_of change)) n ≡ slice_index (latest_of change latest) n
 
 -- nine words tell of the next frame
 abbrev pub TellAfter : ℕ → List ℕ → ℕ → Tint → List ℕ → Type 0

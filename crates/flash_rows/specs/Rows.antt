@@ -1,12 +1,14 @@
 -- Rows of words that stand for the tints of a pixel. Of each of the last frames of a list, as many as the rate or all, a row holds
--- nine words side by side, and behind them the bounds between which their tints lie. The first has the frame's tint in its six lower bytes. Each other belongs to a change: its eight bytes say,
+-- nine words side by side, and behind them the bounds between which their tints lie, and where the latest chains start that ended. The first has the frame's tint in its six lower bytes, and behind it how many
+-- frames up to it have this tint in a row. Each other belongs to a change: its eight bytes say,
 -- for one change up to eight, where the latest chain of so many changes starts that ends at the frame, and ends with this change.
-use Rattle.std.specs.Prelude.{ℕ, ◌≡◌, ◌+◌, ◌*◌, ◌%◌, ◌<◌, ◌≤◌, Bool, false, true, Some, List, length, slice_get, slice_index}
+use Rattle.std.specs.Prelude.{ℕ, ◌≡◌, ◌+◌, ◌-◌, ◌*◌, ◌%◌, ◌<◌, ◌≤◌, Bool, false, true, Some, List, length, slice_get, slice_index}
 pub use Rattle.byte_lanes.specs.Bytes.{byte, number_of}
 use Rattle.page_model.specs.declared.colour.Tint.{Tint}
 use Rattle.tint_changes.specs.declared.changes.Change.{Change}
 use Rattle.tint_changes.specs.declared.changes.Change.TheVariants.{PossibleRise, PossibleFall, SureRise, SureFall, PossiblyIntoRed, PossiblyOutOfRed, SurelyIntoRed, SurelyOutOfRed}
 use Rattle.tint_changes.specs.Counting.{MakesAt}
+use Rattle.flash_rows.specs.declared.ended.Ended.{Ended}
 use Rattle.flash_rows.specs.Bounds.{AreWithin, bounds_at}
 use Rattle.flash_rows.specs.Starts.{IsLatest, Leads}
 
@@ -62,14 +64,27 @@ pub record EndsBefore (sure : Bool) (tints : List Tint) (frame start : ℕ) : Ty
   pub before : end < frame
   pub ends : EndsWith change tints 8 end start
 
--- nine words tell of a frame: its tint, and where the latest chains start that end at it; and in the two upper bytes of the first
--- word, where the latest chain of eight possible changes starts that ends before the next frame, and the latest of sure ones
+-- the tint of a frame is that of so many frames up to it, which follow one another
+pub record HasRun (tints : List Tint) (frame run : ℕ) : Type 0 where
+  pub some : 1 ≤ run
+  pub inside : run ≤ frame + 1
+  pub alike : (back : ℕ) → back < run → slice_get tints (frame - back) ≡ slice_get tints frame
+
+-- nine words tell of a frame: its tint, and of how many frames up to it; and where the latest chains start that end at it
 pub record TellsOf (rate : ℕ) (tints : List Tint) (frame : ℕ) (word : ℕ → ℕ) : Type 0 where
   pub tint : slice_get tints frame ≡ Some (tint_in (word 0))
+  pub run : HasRun tints frame (byte (word 0) 6)
   pub starts : (change : Change) (n : ℕ) → n ≤ 8
       → IsLatest (EndsWith change tints n frame) rate frame (number_of (word (column_of change)) n)
-  pub possible : IsLatest (EndsBefore false tints (frame + 1)) rate frame (byte (word 0) 6)
-  pub sure : IsLatest (EndsBefore true tints (frame + 1)) rate frame (byte (word 0) 7)
+
+-- two numbers say where the latest chain of eight possible changes starts, and the latest of sure ones
+abbrev pub ended_in : ℕ → Ended
+ended_in word = record { possible = byte word 0; sure = byte word 1 }
+
+-- they do of chains that end before a frame, as another one sees them
+pub record AreEnded (rate : ℕ) (tints : List Tint) (limit frame : ℕ) (ended : Ended) : Type 0 where
+  pub possible : IsLatest (EndsBefore false tints limit) rate frame ended.possible
+  pub sure : IsLatest (EndsBefore true tints limit) rate frame ended.sure
 
 -- the words of a frame in a row for a rate: each frame takes the place of that of a window before
 abbrev pub words_at : ℕ → List ℕ → ℕ → ℕ → ℕ
@@ -81,3 +96,4 @@ pub record StandsFor (rate : ℕ) (tints : List Tint) (row : List ℕ) : Type 0 
   pub tells : (frame : ℕ) → frame < length tints → length tints ≤ frame + rate
       → TellsOf rate tints frame (words_at rate row frame)
   pub within : AreWithin rate tints (bounds_at rate row)
+  pub ended : AreEnded rate tints (length tints) (length tints) (ended_in (slice_index row (9 * rate + 3)))

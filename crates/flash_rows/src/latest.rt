@@ -1,10 +1,9 @@
 // Where the latest chains start that end with each change, lowered frame by frame.
-ghost use Rattle.std.specs.Prelude.{ℕ, ◌≡◌, ◌↔◌, ◌+◌, ◌*◌, ◌<◌, ◌≤◌, IsTrue, length, slice_index};
+ghost use Rattle.std.specs.Prelude.{ℕ, ◌≡◌, ◌+◌, ◌*◌, ◌<◌, ◌≤◌, IsTrue, length, slice_index};
 ghost use Rattle.tint_changes.specs.declared.changes.Change.{Change};
 ghost use Rattle.byte_lanes.specs.Lanes.{AreBelow, numbers_of};
 ghost use Rattle.tint_changes.specs.Made.{IsKnown};
-ghost use Rattle.flash_rows.specs.Rows.{tint_in};
-ghost use Rattle.flash_rows.specs.Pushing.{AreKindSmall, AreSmall, Looked, Lowered, LoweredBy, LoweredByLight, LoweredByRed, LoweredIf, LoweredKind, latest_of};
+ghost use Rattle.flash_rows.specs.Pushing.{AreKindSmall, AreSmall, Lowered, LoweredBy, LoweredByLight, LoweredByRed, LoweredIf, LoweredKind, latest_of};
 
 use crate::words::tint_of;
 use byte_lanes::Numbers;
@@ -110,7 +109,7 @@ fn lower_by_red(best: &mut KindStarts, row: &[u64], place: usize, next: &NextTin
 }
 
 /// Makes the numbers of all changes no greater than those by way of the frame at a place, so many frames before.
-fn look_at(best: &mut Latest, row: &[u64], place: usize, next: &NextTint, age: u8)
+pub(crate) fn look_at(best: &mut Latest, row: &[u64], place: usize, next: &NextTint, age: u8)
     requires room { 9 * place + 9 ≤ length row.now }
     requires known { IsKnown next.now }
     requires small { AreSmall best.old }
@@ -119,36 +118,4 @@ fn look_at(best: &mut Latest, row: &[u64], place: usize, next: &NextTint, age: u
 {
     lower_by_light(&mut best.light, row, place, next, age);
     lower_by_red(&mut best.red, row, place, next, age);
-}
-
-/// Whether two frames have the same tint, by their first words.
-fn are_alike(first: u64, second: u64) -> bool
-    ensures { IsTrue result ↔ (tint_in first ≡ tint_in second) }
-{
-    tint_of(first) == tint_of(second)
-}
-
-/// The same, but a frame that has the tint of the one behind it is passed over: all that leads to it leads there too,
-/// by a start that is no earlier. The next frame itself isn't in the row yet.
-pub(crate) fn look_back(
-    best: &mut Latest,
-    row: &[u64],
-    behind: usize,
-    place: usize,
-    next: &NextTint,
-    age: u8,
-)
-    requires room { 9 * place + 9 ≤ length row.now }
-    requires behind { 9 * behind + 9 ≤ length row.now }
-    requires known { IsKnown next.now }
-    requires small { AreSmall best.old }
-    ensures looked { Looked row.now behind place next.now.tint age best.old best.new }
-    ensures small { AreSmall best.new }
-{
-    if age > 1 {
-        if are_alike(row[9 * behind], row[9 * place]) {
-            return;
-        }
-    }
-    look_at(best, row, place, next, age);
 }

@@ -8,6 +8,7 @@
 #![tactic(auto)]
 
 mod bounds;
+mod ended;
 mod latest;
 mod next;
 mod starts;
@@ -15,4 +16,5 @@ mod still;
 mod words;
 
 pub use bounds::Bounds;
+pub use ended::{Ended, ended_word};
 pub use next::{Next, next_words};

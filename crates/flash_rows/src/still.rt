@@ -2,7 +2,7 @@
 ghost use Rattle.std.specs.Prelude.{ℕ, ◌≡◌, ◌+◌, ◌*◌, ◌<◌, ◌≤◌, ◌↔◌, IsTrue, length, min};
 ghost use Rattle.tint_changes.specs.declared.changes.Change.{Change};
 ghost use Rattle.tint_changes.specs.Counting.{Makes};
-ghost use Rattle.flash_rows.specs.Pushing.{IsStill, TellAfter};
+ghost use Rattle.flash_rows.specs.Pushing.{IsStill, RunAfter, TellAfter};
 ghost use Rattle.flash_rows.specs.Rows.{byte};
 
 use crate::starts::last_place;
@@ -39,6 +39,25 @@ fn are_same(a: Tint, b: Tint) -> bool
     a == b
 }
 
+/// Of how many frames up to the next one, which follow one another, its tint is the tint.
+pub(crate) fn run_after(row: &[u64], rate: u16, turn: u32, tint: Tint) -> u8
+    requires some { 1 ≤ rate }
+    requires limit { rate ≤ 240 }
+    requires room { 9 * (rate + 1) ≤ length row.now }
+    ensures { RunAfter rate row.now turn tint result }
+{
+    if turn == 0 {
+        return 1;
+    }
+    let place = last_place(rate, turn);
+    let before = tint_of(row[9 * place]);
+    if !are_same(before, tint) {
+        return 1;
+    }
+    let bytes = bytes_of(row[9 * place]);
+    later(bytes[6], rate)
+}
+
 /// Whether the next tint is that of the frame before, and no change lies between the two.
 pub(crate) fn is_still(row: &[u64], rate: u16, turn: u32, tint: Tint) -> bool
     requires some { 1 ≤ rate }
@@ -70,17 +89,17 @@ fn later_word(word: u64, rate: u16) -> u64
 }
 
 /// The words of the next frame where nothing changes: all starts are one frame further off.
-pub(crate) fn words_kept(row: &[u64], rate: u16, turn: u32, tint: Tint) -> [u64; 9]
+pub(crate) fn words_kept(row: &[u64], rate: u16, turn: u32, tint: Tint, run: u8) -> [u64; 9]
     requires some { 1 ≤ rate }
     requires limit { rate ≤ 240 }
     requires room { 9 * (rate + 1) ≤ length row.now }
     requires still { IsStill rate row.now turn tint }
+    requires run { RunAfter rate row.now turn tint run }
     ensures { TellAfter rate row.now turn tint result }
 {
     let place = last_place(rate, turn);
-    let bytes = bytes_of(row[9 * place]);
     [
-        first_word(tint, later(bytes[6], rate), later(bytes[7], rate)),
+        first_word(tint, run),
         later_word(row[9 * place + 1], rate),
         later_word(row[9 * place + 2], rate),
         later_word(row[9 * place + 3], rate),

@@ -24,12 +24,11 @@ pub(crate) fn tint_of(word: u64) -> Tint
     }
 }
 
-/// A frame's first word: its tint, and where the latest chains start.
-pub(crate) fn first_word(tint: Tint, possible: u8, sure: u8) -> u64
+/// A frame's first word: its tint, and of how many frames up to this one, which follow one another, it is the tint.
+pub(crate) fn first_word(tint: Tint, run: u8) -> u64
     ensures tint { tint_in result ≡ tint }
-    ensures possible { byte result 6 ≡ possible }
-    ensures sure { byte result 7 ≡ sure }
+    ensures run { byte result 6 ≡ run }
 {
     let Tint { lo, hi } = tint;
-    word_of([lo.r, lo.g, lo.b, hi.r, hi.g, hi.b, possible, sure])
+    word_of([lo.r, lo.g, lo.b, hi.r, hi.g, hi.b, run, 0])
 }

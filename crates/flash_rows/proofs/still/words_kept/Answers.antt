@@ -1,10 +1,10 @@
 -- What the frame before tells, one frame later.
-use Rattle.std.proofs.Common.{ℕ, ◌∙◌, Some, ap, ◌-◌, ◌<◌, [], ◌∷◌, ◌++◌, arith, get_or}
-use Rattle.std.specs.Prelude.{true, false}
+use Rattle.std.proofs.Common.{ℕ, ◌∙◌, Some, ap, subst, sym, ◌-◌, ◌<◌, [], ◌∷◌, ◌++◌, arith}
 use Rattle.page_model.specs.declared.colour.Tint.{Tint}
 use Rattle.tint_changes.specs.declared.changes.Change.TheVariants.{PossibleRise, PossibleFall, SureRise, SureFall, PossiblyIntoRed, PossiblyOutOfRed, SurelyIntoRed, SurelyOutOfRed}
 use Rattle.flash_rows.proofs.RowLemmas.{ChangeWords, last-is, words-tell}
-use Rattle.flash_rows.proofs.StillLemmas.{StaysAt, first-kept, word-kept}
+use Rattle.flash_rows.specs.Rows.{HasRun}
+use Rattle.flash_rows.proofs.StillLemmas.{StaysAt, word-kept}
 use Rattle.flash_rows.proofs.still.words_kept.Goals as goal
 
 pub returns : goal.returns
@@ -50,8 +50,5 @@ returns c tints count stands =
           c.later_word-7.ensures;
       surely_out = word-kept rate (turn - 1) turn c.last_place-place.result c.args.row.now tints tint SurelyOutOfRed words.sure_out at tells stays
           c.later_word-8.ensures;
-      possible = first-kept rate (turn - 1) turn c.last_place-place.result 6 (get_or c.bytes_of-bytes.result 6 0) _ c.args.row.now false tints
-          tint at tells.possible stays (c.bytes_of-bytes.ensures 6) (c.first_word.ensures.possible ∙ c.later.ensures);
-      sure = first-kept rate (turn - 1) turn c.last_place-place.result 7 (get_or c.bytes_of-bytes.result 7 0) _ c.args.row.now true tints
-          tint at tells.sure stays (c.bytes_of-bytes.ensures 7) (c.first_word.ensures.sure ∙ c.later-2.ensures);
+      run = subst (HasRun (tints ++ tint ∷ []) turn) (sym c.first_word.ensures.run) (c.requires.run tints count stands);
     })
