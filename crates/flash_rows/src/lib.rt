@@ -1,10 +1,12 @@
 //! What a row of words tells of the tints of a pixel, and the words of the next frame.
 //!
 //! Who keeps such rows asks [`next_words`] for the words of the next frame's tint, and puts them into their place. A row
-//! holds, for each frame of the last window and each change, where the latest chain starts that ends there with this
-//! change. A tint that stays costs a constant: each start is one frame further off. Of a run of equal tints its last
-//! frame is enough, since all that leads to an earlier one leads there too. The key clause: the words tell of the next
-//! frame what the definitions say, whatever tints the row stands for. It says nothing of flags.
+//! holds, for each frame that a window looks back on and each change, where the latest chain starts that ends there with
+//! this change. A tint that stays costs a constant: each start is one frame further off. Where no tint of the window is
+//! far enough from the next one for a change, that costs a constant too: behind the words stand the bounds of their
+//! light. Else one look back is taken, from the end of one run of equal tints to that of the run before. The key clause:
+//! the words tell of the next frame what the definitions say, whatever tints the row stands for. It says nothing of
+//! flags.
 #![tactic(auto)]
 
 mod bounds;
