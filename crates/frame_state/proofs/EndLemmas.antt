@@ -13,7 +13,7 @@ use Rattle.fraction_laws.specs.FractionLaws.{IsPart}
 use Rattle.fraction_laws.proofs.FractionLemmas.{stepped-part}
 use Rattle.easing_bounds.specs.Value.{eased_value}
 use Rattle.easing_bounds.proofs.ToldLemmas.{told-end}
-use Rattle.frame_state.specs.Ways.{greatest_of, least_of}
+use Rattle.layer_ways.specs.Ways.{greatest_of, least_of}
 use Rattle.slot_values.specs.Ends.{AreEnds, End}
 
 -- one end that is the value

@@ -1,9 +1,6 @@
-pub mod CourseLemmas
 pub mod EndLemmas
-pub mod FoundLemmas
 pub mod ListLemmas
-pub mod NamedLemmas
-pub mod PlainLemmas
+pub mod PickLemmas
 pub mod ShownLemmas
 pub mod StateLemmas
-pub mod ValueLemmas
+pub mod StraightLemmas

@@ -6,7 +6,7 @@ use Rattle.page_model.specs.Enclosure.{AllReach, IsHiddenSurely, IsShownSurely, 
 use Rattle.page_model.specs.Fraction.{Fraction}
 use Rattle.slot_values.specs.Ends.{AreEnds, End, EndReaches}
 use Rattle.slot_values.proofs.RoundingLemmas.{each-is, either-is, le-true}
-use Rattle.frame_state.specs.Ways.{hides_at, shown_between, unless_hidden}
+use Rattle.layer_ways.specs.Ways.{hides_at, shown_between, unless_hidden}
 
 -- an end is 1 or more, or isn't above 0
 one-reached : (x : End) → EndReaches x (pos 1) (pos 1) ↔ (int_le (pos x.den) x.num ≡ true)

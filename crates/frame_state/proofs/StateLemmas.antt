@@ -31,14 +31,15 @@ use Rattle.slot_values.specs.Ends.{AreEnds, End, nothing_made}
 use Rattle.slot_values.specs.Slots.{IsInSlot, loose_of, value_at}
 use Rattle.frame_state.specs.Scenes.{is_cubic}
 use Rattle.frame_state.specs.States.{IsInSlots, known, state_by, sure_of, sure_with}
-use Rattle.frame_state.specs.Ways.{Way, channel_by, eased_way, greatest_of, hides_at, least_of, level_by, shown_by, unless_hidden, value_by, way_of}
+use Rattle.layer_ways.specs.Ways.{Way, channel_by, eased_way, greatest_of, hides_at, least_of, level_by, shown_by, unless_hidden, value_by, way_of}
 use Rattle.slot_values.proofs.ChannelLemmas.{channel-small, loose_channel-is}
-use Rattle.frame_state.proofs.CourseLemmas.{cases_Option, interval_at-none, interval_at-some}
+use Rattle.layer_ways.proofs.CourseLemmas.{cases_Option, interval_at-none, interval_at-some}
 use Rattle.frame_state.proofs.EndLemmas.{ends-are}
-use Rattle.frame_state.proofs.FoundLemmas.{course_way}
-use Rattle.frame_state.proofs.PlainLemmas.{All-filter_map, All-slice_get, interval-limits, interval-part, interval-straight}
+use Rattle.frame_state.proofs.PickLemmas.{course_way}
+use Rattle.layer_ways.proofs.PlainLemmas.{All-filter_map, All-slice_get, interval-limits, interval-part}
 use Rattle.slot_values.proofs.RoundingLemmas.{in_slot, loose-is}
 use Rattle.frame_state.proofs.ShownLemmas.{shown-is}
+use Rattle.frame_state.proofs.StraightLemmas.{interval-straight}
 
 -- the layer that is read at a place
 pub read-is : (layers xs : List Layer) (number : ℕ) (layer element : Layer) → element ≡ get_or xs number element → xs ≡ layers

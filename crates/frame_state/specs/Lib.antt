@@ -1,7 +1,4 @@
-pub mod Alpha
-pub mod Found
-pub mod Named
+pub mod Picked
 pub mod Places
 pub mod Scenes
 pub mod States
-pub mod Ways

@@ -6,20 +6,14 @@ use Rattle.page_model.specs.declared.property.Prop.TheVariants.{Background, Opac
 use Rattle.page_model.specs.declared.scene.Layer.{Layer}
 use Rattle.page_model.specs.declared.scene.Scene.{Scene}
 use Rattle.page_model.specs.declared.setup.Setup.{Setup}
-use Rattle.page_model.specs.Enclosure.{LooseState, one_value, Sureness, surely, surely_not, maybe, own, IsLooseStateAt}
+use Rattle.page_model.specs.Enclosure.{LooseState, one_value, Sureness, surely, surely_not, own, IsLooseStateAt}
 use Rattle.page_model.specs.LayerAt.{IsStateAt, State, red_of, green_of, blue_of, cover_of, alpha_of, length_of}
 use Rattle.page_model.specs.Slot.{cover, alpha, position, extent}
 pub use Rattle.slot_values.specs.Channels.{eight_bits}
 pub use Rattle.slot_values.specs.Slots.{IsInSlot, loose_as, slot_as}
+pub use Rattle.layer_ways.specs.Ways.{sureness_of}
 use Rattle.frame_state.specs.declared.types.LayerState.{LayerState}
-use Rattle.frame_state.specs.declared.types.Shown.{Shown}
-use Rattle.frame_state.specs.declared.types.Shown.TheVariants.{Yes, No, Maybe}
-use Rattle.frame_state.specs.Ways.{Way, channel_by, value_by, shown_by}
-
-abbrev pub sureness_of : Shown → Sureness
-sureness_of Yes = surely
-sureness_of No = surely_not
-sureness_of Maybe = maybe
+use Rattle.layer_ways.specs.Ways.{Way, channel_by, value_by, shown_by}
 
 abbrev pub state_as : LayerState → LooseState
 state_as state = record {

@@ -5,14 +5,14 @@ ghost use Rattle.page_model.specs.Enclosure.{own, wide, IsLooseStateAt, LooseSta
 ghost use Rattle.page_model.specs.LayerAt as definition;
 ghost use Rattle.page_model.specs.ValidScene.{IsColour, IsValid};
 ghost use Rattle.tint_laws.specs.TintLaws.{LooseStateWithin, StateWithin};
-ghost use Rattle.frame_state.specs.Found.{state_found};
+ghost use Rattle.frame_state.specs.Picked.{state_found};
 ghost use Rattle.frame_state.specs.Places.{place_as, IsOwnPlace, IsPlaceInSlots};
 ghost use Rattle.frame_state.specs.Scenes.{is_cubic};
 ghost use Rattle.frame_state.specs.States.{state_as, states_as, known, IsInSlots, AreOwn, AreExact, AreInSlots};
 
 use crate::place::{alpha_of, fill_of, place_of, shown_of};
-use crate::search::{Found, found_at};
 use crate::types::{LayerState, Place};
+use layer_ways::{Found, found_at};
 use page_model::{Layer, Scene, Setup};
 
 /// The state of a layer, by what was found of its properties.

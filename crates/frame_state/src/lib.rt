@@ -1,8 +1,7 @@
 //! The state of a layer in a frame: its colour, its cover, its alpha, whether it is shown and its box, in whole numbers.
 //!
-//! What paints a pixel asks this crate for the states of all layers; below it, timing says how far an animation
-//! is, the keyframe sets between which values a property then is, the easing how far on its way, and the slots which
-//! whole value that makes.
+//! What paints a pixel asks this crate for the states of all layers; below it, `layer_ways` says what the animations of
+//! a layer make of each property, and what there is where a property stays.
 //! [`layer_at`] and [`states_at`] put these together: of a layer's animations the last that has an effect and
 //! names a property gives its value, unless the winning declaration is important, and each value is rounded
 //! half up and held in its range. Where a curve eases, no more is known than two ends between which its value
@@ -14,15 +13,10 @@
 //! What a pixel then looks like is not said here.
 #![tactic(auto)]
 
-mod found;
 mod layers;
-mod named;
-mod parts;
 mod place;
-mod search;
 mod types;
-mod way;
-mod ways;
 
+pub use layer_ways::Shown;
 pub use layers::{layer_at, place_at, states_at};
-pub use types::{LayerState, Place, Shown};
+pub use types::{LayerState, NOTHING, Place};

@@ -2,24 +2,23 @@
 ghost use Rattle.std.specs.Prelude.{◌≡◌, ◌<◌, IfSome, option_map};
 ghost use Rattle.page_model.specs.ValidScene.{IsColour};
 ghost use Rattle.slot_values.specs.Slots.{loose_as, slot_as};
-ghost use Rattle.frame_state.specs.Found as definition;
-ghost use Rattle.frame_state.specs.Found.{edge_as, fill_as, pick};
+ghost use Rattle.layer_ways.specs.Found.{edge_as, fill_as, pixels_by};
+ghost use Rattle.layer_ways.specs.Ways.{stays, sureness_of};
+ghost use Rattle.frame_state.specs.Picked as definition;
+ghost use Rattle.frame_state.specs.Picked.{pick};
 ghost use Rattle.frame_state.specs.Places.{place_as};
-ghost use Rattle.frame_state.specs.States.{sureness_of};
-ghost use Rattle.frame_state.specs.Ways.{stays};
 
-use crate::found::{Fill, alpha_still, fill_still, pixels_still, shown_still};
-use crate::search::{Edges, Look};
-use crate::types::{Place, Shown};
+use crate::types::Place;
 use fix_span::Loose;
 use keyframe_sets::declared;
+use layer_ways::{Edges, Fill, Look, Shown, alpha_still, fill_still, pixels_still, shown_still};
 use page_model::{Layer, Prop, Rgba, Value};
 use slot_values::{EXTENT, POSITION, Slot};
 
 /// A length of a box: what was found, unless its declaration is important, and else its own.
 fn pixels_of(slot: Slot, held: bool, own: Value, found: Option<Loose>) -> Loose
     requires { 0 < slot.unit }
-    ensures { loose_as result ≡ pick held (definition.pixels_by (slot_as slot) (stays own)) (edge_as found) }
+    ensures { loose_as result ≡ pick held (pixels_by (slot_as slot) (stays own)) (edge_as found) }
 {
     if held {
         return pixels_still(slot, own);

@@ -16,8 +16,7 @@ use crate::blending::{blended_span, combined_span, hull, span_of};
 use crate::covering::is_at;
 use crate::span::Span;
 use crate::topmost::seen_from;
-use fix_span::Loose;
-use frame_state::{LayerState, Shown, states_at};
+use frame_state::{LayerState, NOTHING, Shown, states_at};
 use page_model::{Rgb, Scene, Setup, Tint};
 
 const WHITE: Rgb = Rgb {
@@ -36,21 +35,6 @@ const FULL_ALPHA: Span = Span { lo: 255, hi: 255 };
 
 // The most layers that a valid scene has.
 const MOST_LAYERS: usize = 65;
-
-const ZERO: Loose = Loose { lo: 0, hi: 0 };
-
-const NOTHING: LayerState = LayerState {
-    shown: Shown::No,
-    r: ZERO,
-    g: ZERO,
-    b: ZERO,
-    cover: ZERO,
-    alpha: ZERO,
-    left: ZERO,
-    top: ZERO,
-    width: ZERO,
-    height: ZERO,
-};
 
 fn tint_by(red: Span, green: Span, blue: Span) -> Tint
     ensures { result ≡ definition.tint_by (span_as red) (span_as green) (span_as blue) }

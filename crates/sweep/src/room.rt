@@ -2,9 +2,8 @@
 ghost use Rattle.std.specs.Prelude.{◌≡◌, ◌+◌, ◌*◌, ◌^◌, ◌≤◌, IfOk, count_by};
 ghost use Rattle.sweep.specs.Swept.{IsRoom};
 
-use fix_span::Loose;
 use flash_count::{Flag, row_words};
-use frame_state::{LayerState, Shown};
+use frame_state::{LayerState, NOTHING};
 use page_model::{NoMemory, Rgb, Tint};
 use row_pool::Pool;
 use std::alloc::Global;
@@ -19,22 +18,6 @@ const BLACK: Tint = Tint {
 const UNFLAGGED: Flag = Flag {
     possible: false,
     sure: false,
-};
-
-const ZERO: Loose = Loose { lo: 0, hi: 0 };
-
-/// The state of a layer that wasn't looked at yet.
-const NOTHING: LayerState = LayerState {
-    shown: Shown::No,
-    r: ZERO,
-    g: ZERO,
-    b: ZERO,
-    cover: ZERO,
-    alpha: ZERO,
-    left: ZERO,
-    top: ZERO,
-    width: ZERO,
-    height: ZERO,
 };
 
 /// A row for each cell, of which each group of cells uses one, and what is known in the frame that is looked at.

@@ -3,28 +3,11 @@ ghost use Rattle.std.specs.Prelude.{◌≡◌, Some, length, take};
 ghost use Rattle.page_model.specs.ValidScene.{IsValid};
 ghost use Rattle.witness_checks.specs.Kept.{IsKept};
 
-use fix_span::Loose;
-use frame_state::{LayerState, Shown, states_at};
+use frame_state::{LayerState, NOTHING, states_at};
 use page_model::{Scene, Setup};
 
 /// The most layers that a valid scene has.
 const MOST_LAYERS: usize = 65;
-
-const ZERO: Loose = Loose { lo: 0, hi: 0 };
-
-/// What stands where no state is written yet.
-const NOTHING: LayerState = LayerState {
-    shown: Shown::No,
-    r: ZERO,
-    g: ZERO,
-    b: ZERO,
-    cover: ZERO,
-    alpha: ZERO,
-    left: ZERO,
-    top: ZERO,
-    width: ZERO,
-    height: ZERO,
-};
 
 /// Where no states are kept yet.
 pub(crate) const NO_STATES: KeptStates = KeptStates {

@@ -6,7 +6,7 @@ use Rattle.tint_laws.specs.TintLaws.{StateWithin}
 use Rattle.tint_laws.proofs.KindLemmas.{state-in}
 use Rattle.tint_laws.proofs.WindowLemmas.{layer-at, state-within}
 use Rattle.frame_state.specs.States.{IsInSlots, state_as, state_by}
-use Rattle.frame_state.proofs.FoundLemmas.{course_way, state-read}
+use Rattle.frame_state.proofs.PickLemmas.{course_way, state-read}
 use Rattle.frame_state.proofs.StateLemmas.{read-is, state_by-exact, state_by-in_slots, state_by-own}
 use Rattle.frame_state.proofs.layers.layer_at.Goals as goal
 use Rattle.std.specs.Prelude.{Some, slice_get}

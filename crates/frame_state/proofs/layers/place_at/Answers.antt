@@ -7,7 +7,7 @@ use Rattle.tint_laws.proofs.WindowLemmas.{layer-at}
 use Rattle.wide_laws.proofs.LooseLemmas.{loose_state-unique}
 use Rattle.frame_state.specs.Places.{IsPlaceInSlots, place_as, place_in}
 use Rattle.frame_state.specs.States.{state_by}
-use Rattle.frame_state.proofs.FoundLemmas.{course_way, place-read}
+use Rattle.frame_state.proofs.PickLemmas.{course_way, place-read}
 use Rattle.frame_state.proofs.StateLemmas.{read-is, state_by-in_slots, state_by-own}
 use Rattle.frame_state.proofs.layers.place_at.Goals as goal
 

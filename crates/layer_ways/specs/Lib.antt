@@ -1,0 +1,4 @@
+pub mod Alpha
+pub mod Found
+pub mod Named
+pub mod Ways
