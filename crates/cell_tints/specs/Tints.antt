@@ -7,7 +7,8 @@ use Rattle.page_model.specs.declared.setup.Setup.{Setup}
 use Rattle.page_model.specs.Cells.{cells_between}
 use Rattle.page_model.specs.Enclosure.{LooseState}
 use Rattle.page_model.specs.TintOf.{tint_of}
-use Rattle.frame_state.specs.States.{AreOwn}
+use Rattle.frame_state.specs.declared.types.LayerState.{LayerState}
+use Rattle.frame_state.specs.States.{AreInSlots, AreOwn, states_as}
 use Rattle.paint_blend.specs.Paint.{IsOrdered}
 use Rattle.region_split.specs.Cutting.{Edges, cell_of}
 
@@ -17,6 +18,12 @@ pub record IsOwnTint (scene : Scene) (setup : Setup) (frame column row : ℕ) (t
   pub own_states : AreOwn scene setup frame states
   pub is : tint ≡ tint_of scene states column row
   pub ordered : IsOrdered tint
+
+-- states are those of all layers in a frame, by the own kind and in their slots
+pub record AreStatesIn (scene : Scene) (setup : Setup) (frame : ℕ) (states : List LayerState) : Type 0 where
+  pub long : length states ≡ length scene.layers
+  pub own_states : AreOwn scene setup frame (states_as states)
+  pub ranges : AreInSlots scene (states_as states)
 
 -- how many cells there are
 abbrev pub cells_of : Edges → ℕ
@@ -38,3 +45,10 @@ AreTintsIn scene setup edges frame chosen count tints =
     (i : ℕ) (tint : Tint) → i < count → slice_get tints i ≡ Some tint
     → IsOwnTint scene setup frame (cell_of edges.xs edges.ys (slice_index chosen i)).x
     (cell_of edges.xs edges.ys (slice_index chosen i)).y tint
+
+-- tints are those of some cells by the states of the layers
+abbrev pub AreTintsBy : Scene → Edges → List ℕ → List LayerState → List Tint → Type 0
+AreTintsBy scene edges chosen states tints =
+    (i : ℕ) (tint : Tint) → slice_get tints i ≡ Some tint
+    → tint ≡ tint_of scene (states_as states) (cell_of edges.xs edges.ys (slice_index chosen i)).x
+    (cell_of edges.xs edges.ys (slice_index chosen i)).y

@@ -2,7 +2,7 @@
 ghost use Rattle.std.specs.Prelude.{◌≡◌, ◌+◌, ◌^◌, ◌<◌, ◌≤◌, IfOk, OnOk, length, slice_index, take};
 ghost use Rattle.page_model.specs.ValidScene.{IsValid};
 ghost use Rattle.frame_state.specs.States.{AreInSlots, AreOwn, states_as};
-ghost use Rattle.cell_tints.specs.Tints.{AreTintsIn, AreTintsOfCells, cells_of};
+ghost use Rattle.cell_tints.specs.Tints.{AreStatesIn, AreTintsIn, AreTintsOfCells, cells_of};
 
 use frame_state::{LayerState, layer_at, states_at};
 use page_model::{NoMemory, Scene, Setup, Tint};
@@ -11,7 +11,7 @@ use region_split::Cuts;
 use std::alloc::Global;
 
 /// The most layers that a valid scene has.
-const MOST_LAYERS: usize = 65;
+pub(crate) const MOST_LAYERS: usize = 65;
 
 /// The states of all layers in a frame, by number, and others behind them.
 fn states_in(scene: &Scene, setup: &Setup, frame: u32) -> [LayerState; MOST_LAYERS]
@@ -65,7 +65,8 @@ pub fn tints_in_frame(
     requires known { (i : _) → i < length chosen.now → slice_index chosen.now i < cells_of cuts.now }
     requires layers { length states.old ≡ length scene.now.layers }
     requires all { length tints.old ≡ length chosen.now }
-    ensures { AreTintsIn scene.now setup.now cuts.now frame chosen.now (length chosen.now) tints.new }
+    ensures states { AreStatesIn scene.now setup.now frame states.new }
+    ensures tints { AreTintsIn scene.now setup.now cuts.now frame chosen.now (length chosen.now) tints.new }
 {
     states_at(scene, setup, u64::from(frame), states);
     for i in 0..chosen.len() {

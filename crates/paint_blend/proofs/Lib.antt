@@ -1,7 +1,8 @@
 mod ExactLemmas
-mod HeldLemmas
+pub mod HeldLemmas
 mod HideLemmas
-mod OrderLemmas
+pub mod KeptLemmas
+pub mod OrderLemmas
 mod ReadyLemmas
 mod SeenLemmas
 mod SpanLemmas

@@ -14,8 +14,10 @@
 
 mod blending;
 mod covering;
+mod kept;
 mod painting;
 mod span;
 mod topmost;
 
+pub use kept::{changed_in, is_kept};
 pub use painting::{tint, tint_of};

@@ -3,6 +3,7 @@ use Rattle.std.proofs.Common.{rules, ap, sym}
 use Rattle.std.proofs.lemmas.Option.{slice_get_within}
 use Rattle.frame_state.specs.States.{states_as}
 use Rattle.region_split.specs.declared.types.Rect.{Rect}
+use Rattle.cell_tints.proofs.FollowLemmas.{states-in}
 use Rattle.cell_tints.proofs.TintLemmas.{own-tint, tints-written}
 use Rattle.cell_tints.proofs.tints.tints_in_frame.Goals as goal
 
@@ -18,3 +19,8 @@ loop-i-preserved c =
     (own-tint c.args.scene.now c.args.setup.now c.args.frame c.cell-cell.result.x c.cell-cell.result.y c.tint_of.result
     (states_as c.states_at.new.out, rw c.from.ensures at c.states_at.ensures.own, c.tint_of.ensures.value)
     c.tint_of.ensures.ordered)
+
+pub returns-clause-states : goal.returns-clause-states
+returns-clause-states c =
+    states-in c.args.scene.now c.args.setup.now c.from.result c.args.frame c.states_at.new.out c.from.ensures (search rules) c.states_at.ensures.own
+    c.states_at.ensures.ranges
