@@ -1,4 +1,5 @@
 pub mod ApartLemmas
+pub mod FewLemmas
 pub mod FoundLemmas
 pub mod GroupLemmas
 pub mod MarkLemmas

@@ -1,4 +1,5 @@
 pub mod Apart
+pub mod Few
 pub mod Marks
 pub mod Swept
 pub mod Told

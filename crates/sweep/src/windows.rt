@@ -1,10 +1,11 @@
 // Windows with too many flagged pixels.
-ghost use Rattle.std.specs.Prelude.{ℕ, ◌≡◌, ◌<◌, length, slice_index};
+ghost use Rattle.std.specs.Prelude.{ℕ, ◌≡◌, ◌<◌, ◌↔◌, IsNone, IsTrue, length, slice_index};
 ghost use Rattle.page_model.specs.Cells.{cells_between};
 ghost use Rattle.page_model.specs.declared.scene.Scene.{Scene as Page};
 ghost use Rattle.page_model.specs.declared.setup.Setup.{Setup as Viewing};
 ghost use Rattle.region_split.specs.Cutting.{Edges};
 ghost use Rattle.sweep.specs.declared.windows.Sort.TheVariants.{Possible, Sure};
+ghost use Rattle.sweep.specs.Few.{AreNested, AreUnflagged, IsNested, IsUnflagged};
 ghost use Rattle.sweep.specs.Swept.{IsFoundIn, IsTold};
 ghost use Rattle.sweep.specs.Told.{AreMarksOf, HaveFlags, IsFinding, IsLookedAt, spread, told};
 
@@ -134,7 +135,97 @@ fn look_for(
     }
 }
 
-/// Looks at the window that starts at a frame and has these flags, for each sort of which none was found before.
+fn is_unflagged(flag: Flag) -> bool
+    ensures { IsTrue result ↔ IsUnflagged flag }
+{
+    !flag.possible && !flag.sure
+}
+
+fn is_nested(flag: Flag) -> bool
+    ensures { IsTrue result ↔ IsNested flag }
+{
+    flag.possible || !flag.sure
+}
+
+/// Whether nothing is flagged, of neither sort.
+fn are_unflagged(flags: &[Flag]) -> bool
+    ensures { IsTrue result ↔ AreUnflagged flags.now }
+{
+    for flag in flags {
+        if !is_unflagged(*flag) {
+            return false;
+        }
+    }
+    true
+}
+
+/// Whether all that is surely flagged is possibly flagged too.
+fn are_nested(flags: &[Flag]) -> bool
+    ensures { IsTrue result ↔ AreNested flags.now }
+{
+    for flag in flags {
+        if !is_nested(*flag) {
+            return false;
+        }
+    }
+    true
+}
+
+/// Whether no window with many possible flags was found, and the sure ones are among them.
+fn are_few(possible: Option<BadWindow>, flags: &[Flag]) -> bool
+    ensures { IsTrue result ↔ (IsNone possible × AreNested flags.now) }
+{
+    if possible.is_some() {
+        return false;
+    }
+    are_nested(flags)
+}
+
+/// Looks at the window that starts at a frame and has these flags, for each sort of which none was found before. The
+/// possible flags are asked first: where they are few, the sure ones among them are few too, and aren't asked.
+fn look_at_flagged(
+    found: Found,
+    cuts: &Cuts,
+    groups: &Groups,
+    flags: &[Flag],
+    start: u32,
+    marks: &mut [bool],
+    work: &mut [u32],
+) -> Found
+    requires flags { HaveFlags cuts.now groups.now flags.now }
+    requires marks { length marks.old ≡ cells_between cuts.now.xs cuts.now.ys }
+    requires work { length work.old ≡ cells_between cuts.now.xs cuts.now.ys }
+    ensures sure { IsLookedAt Sure cuts.now (spread groups.now flags.now) start found.sure result.sure }
+    ensures possible { IsLookedAt Possible cuts.now (spread groups.now flags.now) start found.possible result.possible }
+{
+    let possible = look_for(
+        Sort::Possible,
+        found.possible,
+        cuts,
+        groups,
+        flags,
+        start,
+        marks,
+        work,
+    );
+    if are_few(possible, flags) {
+        return found;
+    }
+    let sure = look_for(
+        Sort::Sure,
+        found.sure,
+        cuts,
+        groups,
+        flags,
+        start,
+        marks,
+        work,
+    );
+    Found { sure, possible }
+}
+
+/// Looks at the window that starts at a frame and has these flags, for each sort of which none was found before. Where
+/// nothing is flagged, nothing is asked.
 pub(crate) fn look(
     found: Found,
     cuts: &Cuts,
@@ -150,25 +241,8 @@ pub(crate) fn look(
     ensures sure { IsLookedAt Sure cuts.now (spread groups.now flags.now) start found.sure result.sure }
     ensures possible { IsLookedAt Possible cuts.now (spread groups.now flags.now) start found.possible result.possible }
 {
-    let sure = look_for(
-        Sort::Sure,
-        found.sure,
-        cuts,
-        groups,
-        flags,
-        start,
-        marks,
-        work,
-    );
-    let possible = look_for(
-        Sort::Possible,
-        found.possible,
-        cuts,
-        groups,
-        flags,
-        start,
-        marks,
-        work,
-    );
-    Found { sure, possible }
+    if are_unflagged(flags) {
+        return found;
+    }
+    look_at_flagged(found, cuts, groups, flags, start, marks, work)
 }

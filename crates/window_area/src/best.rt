@@ -7,7 +7,7 @@ ghost use Rattle.window_area.specs.Sliding.{AreWeights, IsBestRow, IsLookedAt};
 
 use crate::columns::{open_columns, row_of, slide_columns};
 use crate::strip::{Most, most_in_strip};
-use crate::total::flagged_width;
+use crate::total::{flagged_width, total_area};
 use crate::window::Window;
 
 /// The size of WCAG 2.2's rectangle, in pixels.
@@ -77,8 +77,9 @@ pub fn greatest(xs: &[u16], ys: &[u16], flags: &[bool], work: &mut [u32]) -> Bes
     best_row(0, xs, ys, flags, work).told()
 }
 
-/// The same where a rectangle holds more than a limit, and else none: rows in which no rectangle can are passed over,
-/// which takes less time than [`greatest`] where few pixels are flagged, or flagged ones are far apart.
+/// The same where a rectangle holds more than a limit, and else none. No row is looked at where all flagged pixels
+/// together are no more than the limit, and rows in which no rectangle can hold more are passed over: that takes less
+/// time than [`greatest`] where few pixels are flagged, or flagged ones are far apart.
 pub fn greatest_above(
     limit: u32,
     xs: &[u16],
@@ -93,6 +94,9 @@ pub fn greatest_above(
     ensures { MatchOption result (HoldsAtMost xs.now ys.now flags.now limit)
         (λ best. (limit < best.area) × IsGreatest xs.now ys.now flags.now best) }
 {
+    if total_area(xs, ys, flags) <= limit {
+        return None;
+    }
     let best = best_row(limit, xs, ys, flags, work);
     if best.most.area <= limit {
         return None;
