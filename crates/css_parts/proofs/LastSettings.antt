@@ -1,5 +1,5 @@
 -- The settings of a block: of each property the last.
-use Rattle.std.proofs.Common.{◌≡◌, ℕ, zero, suc, ◌<◌, ◌⊎◌, Bool, true, false, cond, List, [], ◌∷◌, ◌++◌, length, Option, Some, None, refl, sym, ap, ◌∙◌, subst, inl, inr, Contains, arith}
+use Rattle.std.proofs.Common.{◌≡◌, ℕ, zero, suc, ◌⊎◌, Bool, true, false, cond, List, [], ◌∷◌, ◌++◌, Option, Some, None, refl, sym, ap, ◌∙◌, subst, inl, inr, Contains, arith}
 use Rattle.std.specs.Prelude.{◌==◌, not, filter}
 use Rattle.std.proofs.lemmas.Bool.Decides.{nat_tests}
 use Rattle.std.proofs.lemmas.List.Elements.{Contains-append_cases, Contains-append_left, Contains-append_right}
@@ -7,7 +7,7 @@ use Rattle.page_model.specs.declared.property.Prop.{Prop}
 use Rattle.page_model.specs.declared.property.Setting.{Setting}
 use Rattle.page_model.specs.declared.rule.Decl.{Decl}
 use Rattle.page_model.specs.Keyframes.{is_same, number_of}
-use Rattle.css_parts.specs.KeyframeGrammar.{setting_in, settings_behind, with_any, with_setting}
+use Rattle.css_parts.specs.KeyframeGrammar.{setting_in, settings_behind, with_any}
 use Rattle.css_parts.specs.KeyframesOfBlocks.{IsLastSetting}
 use Rattle.css_parts.proofs.ReadyFrames.{not_true}
 

@@ -1,13 +1,9 @@
 pub mod FrameLemmas
 pub mod FramesOfBlocks
-pub mod JudgedParts
-pub mod JudgedReadings
+pub mod JudgedOffsets
 pub mod LastSettings
 pub mod ListedLemmas
 pub mod OffsetLemmas
 pub mod OffsetsOnce
-pub mod ReadingLemmas
 pub mod ReadyFrames
-pub mod SelectorLemmas
-pub mod StuckParts
-pub mod StuckReadings
+pub mod StuckOffsets

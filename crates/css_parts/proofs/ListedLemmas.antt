@@ -3,10 +3,10 @@ use Rattle.std.proofs.Common.{◌≡◌, ◌<◌, ◌≤◌, true, false, List, 
 use Rattle.style_tokens.specs.declared.token.CssToken.{CssToken}
 use Rattle.css_declarations.specs.declared.fault.SheetFault.{SheetFault}
 use Rattle.css_declarations.specs.TokenKinds.{begins}
-use Rattle.css_parts.specs.Readings.{Read, Many, Listed, no_comma, behind_first, is_comma}
-use Rattle.css_parts.specs.Readings.Then.{later, whole}
-use Rattle.css_parts.specs.Readings.Many.{stopped, breaks, more}
-use Rattle.css_parts.proofs.ReadingLemmas.{Leads}
+use Rattle.css_selectors.specs.Readings.{Read, Many, Listed, no_comma, behind_first, is_comma}
+use Rattle.css_selectors.specs.Readings.Then.{later, whole}
+use Rattle.css_selectors.specs.Readings.Many.{stopped, breaks, more}
+use Rattle.css_selectors.proofs.ReadingLemmas.{Leads}
 
 abbrev pub Further : {A : Type 0} → (List A → List CssToken → Read A → Type 0) → List A → List CssToken → Read (List A) → Type 0
 Further Item = Many (λ before tokens. Item before (behind_first tokens)) no_comma

@@ -13,10 +13,10 @@ use Rattle.css_words.specs.Words.{words}
 use Rattle.std.specs.Prelude.{ℤ, pos, negsuc, codes, nat_le}
 use Rattle.css_parts.specs.KeyframeGrammar.{Offsets, is_given, is_percentage, measured, new_offset, offset_at, said_at, within_set}
 use Rattle.css_parts.specs.OffsetViews.{AreOffsets, Holds, IsOffsetPut, WasGiven}
-use Rattle.css_parts.specs.Readings.{Read, Exactly, behind_first, is_comma}
-use Rattle.css_parts.specs.Readings.Then.{broken}
+use Rattle.css_selectors.specs.Readings.{Read, Exactly, behind_first, is_comma}
+use Rattle.css_selectors.specs.Readings.Then.{broken}
 use Rattle.css_parts.proofs.ListedLemmas.{AreListed, first_listed, next_listed, list_broken, list_ended}
-use Rattle.css_parts.proofs.ReadingLemmas.{IsAtMost, IsBehind, Keeps, behind_is_less, behind_is_rest, told_as}
+use Rattle.css_selectors.proofs.ReadingLemmas.{IsAtMost, IsBehind, Keeps, behind_is_less, behind_is_rest, told_as}
 
 -- an offset that is said, and is new
 pub new_found : (text : List ℕ) (end : ℕ) (before : List ℕ) (tokens : List CssToken) (said : ℕ × List CssToken) → Ok said ≡ said_at text end tokens → is_given before said.0 ≡ false

@@ -4,15 +4,14 @@ use Rattle.std.specs.Prelude.{◌==◌, ◌||◌, slice_get}
 use Rattle.std.specs.List.{AllByRecursion as Each}
 use Rattle.std.proofs.lemmas.Bool.Decides.{nat_tests}
 use Rattle.style_tokens.specs.declared.token.CssToken.{CssToken}
-use Rattle.css_declarations.specs.declared.context.Context.TheVariants.{Block}
 use Rattle.css_declarations.specs.declared.fault.SheetFault.TheVariants.{BadKeyframes}
 use Rattle.css_declarations.specs.DeclarationReading.{after}
 use Rattle.css_declarations.specs.TokenKinds.{place_of}
-use Rattle.css_declarations.proofs.PairLemmas.{Pairs, each_as, pairs_append, pairs_at}
+use Rattle.css_declarations.proofs.PairLemmas.{Pairs, pairs_append, pairs_at}
 use Rattle.css_parts.specs.KeyframeGrammar.{Blocks, FrameBlock, Offsets, OneBlock, are_closed, given_in, is_given, new_offset, offset_at, said_at}
-use Rattle.css_parts.specs.Readings.{Read, Exactly, Many, behind_first, no_comma}
-use Rattle.css_parts.specs.Readings.Then.{broken, later, whole}
-use Rattle.css_parts.specs.Readings.Many.{stopped, breaks, more}
+use Rattle.css_selectors.specs.Readings.{Read, Exactly, Many, behind_first, no_comma}
+use Rattle.css_selectors.specs.Readings.Then.{broken, later, whole}
+use Rattle.css_selectors.specs.Readings.Many.{stopped, breaks, more}
 
 abbrev Differ : ℕ → ℕ → Type 0
 Differ first second = (first == second) ≡ false

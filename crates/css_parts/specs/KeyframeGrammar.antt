@@ -24,7 +24,7 @@ use Rattle.css_declarations.specs.declared.context.Context.TheVariants.{Block}
 use Rattle.css_declarations.specs.declared.fault.SheetFault.TheVariants.{BadSheet, BadValue, BadKeyframes}
 use Rattle.css_declarations.specs.DeclarationReading.{after}
 use Rattle.css_declarations.specs.TokenKinds.{begins, is_ident, is_right_brace, is_word, place_of, token_text}
-use Rattle.css_parts.specs.Readings.{Read, Exactly, Then, Many, Listed, Braced, Declares}
+use Rattle.css_selectors.specs.Readings.{Read, Exactly, Then, Many, Listed, Braced, Declares}
 
 abbrev pub is_at_word : CssKind → Bool
 is_at_word AtWord = true

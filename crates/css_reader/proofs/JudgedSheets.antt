@@ -17,13 +17,14 @@ use Rattle.css_declarations.specs.TokenKinds.{begins, is_ident, is_left_brace, i
 use Rattle.css_declarations.proofs.JudgedLists.{AreJudged, declarations_judged}
 use Rattle.css_declarations.proofs.ToldUnits.{IsSure, no_memory_told, sure_if}
 use Rattle.css_parts.specs.KeyframeGrammar.{Blocks, FrameBlock, Offsets, OneBlock, are_closed, block_of, given_in, head_at, is_at_word, may_name, name_at, offset_at}
-use Rattle.css_parts.specs.Readings.{Read, Exactly, Then, Braced, Declares, token_at}
-use Rattle.css_parts.specs.Readings.Then.{broken, later, whole}
-use Rattle.css_parts.specs.SelectorGrammar.{Selectors}
-use Rattle.css_parts.proofs.JudgedParts.{offsets_judge, selectors_judge}
-use Rattle.css_parts.proofs.JudgedReadings.{Judges, exactly_judges, many_end, many_judges, then_judges}
+use Rattle.css_selectors.specs.Readings.{Read, Exactly, Then, Braced, Declares, token_at}
+use Rattle.css_selectors.specs.Readings.Then.{broken, later, whole}
+use Rattle.css_selectors.specs.SelectorGrammar.{Selectors}
+use Rattle.css_parts.proofs.JudgedOffsets.{offsets_judge}
+use Rattle.css_selectors.proofs.JudgedSelectors.{selectors_judge}
+use Rattle.css_selectors.proofs.JudgedReadings.{Judges, exactly_judges, many_end, many_judges, then_judges}
 use Rattle.css_parts.proofs.OffsetLemmas.{offset_keeps}
-use Rattle.css_parts.proofs.ReadingLemmas.{listed_keeps, rest_is_less}
+use Rattle.css_selectors.proofs.ReadingLemmas.{listed_keeps, rest_is_less}
 use Rattle.css_reader.specs.SheetGrammar.{AreKeyframes, IsItem, IsRule, Item, Items, is_end, is_end_behind, item_by, keyframes_of, rule_of, sheet_of}
 use Rattle.css_reader.specs.SheetState.{SheetState}
 use Rattle.css_reader.specs.SheetText.{IsSheet, IsSheetFault}

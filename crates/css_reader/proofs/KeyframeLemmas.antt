@@ -13,12 +13,12 @@ use Rattle.css_reader.specs.SheetGrammar.{AreKeyframes, keyframes_of, with_item}
 use Rattle.css_reader.specs.SheetState.{SheetState, with_set}
 use Rattle.css_parts.specs.KeyframeGrammar.{Blocks, FrameBlock, head_at, offset_at, Offsets, OneBlock, are_closed, block_of, frame_of, frames_behind, given_in, with_frames}
 use Rattle.css_parts.specs.OffsetViews.{AreBlocksPut, AreOffsets, Holds, IsBlockPut, IsSetFilled, Keeps, by_offset}
-use Rattle.css_parts.specs.Readings.{Exactly, IsPut, Many, Braced, Declares}
-use Rattle.css_parts.specs.Readings.Then.{broken, later, whole}
-use Rattle.css_parts.specs.Readings.Many.{stopped, breaks, more}
+use Rattle.css_selectors.specs.Readings.{Exactly, IsPut, Many, Braced, Declares}
+use Rattle.css_selectors.specs.Readings.Then.{broken, later, whole}
+use Rattle.css_selectors.specs.Readings.Many.{stopped, breaks, more}
 use Rattle.css_parts.proofs.OffsetLemmas.{offset_keeps}
 use Rattle.css_parts.proofs.OffsetsOnce.{given_more}
-use Rattle.css_parts.proofs.ReadingLemmas.{Keeps as KeepsTokens, Leads, listed_keeps, many_keeps, then_keeps, told_as, told_if}
+use Rattle.css_selectors.proofs.ReadingLemmas.{Keeps as KeepsTokens, Leads, listed_keeps, many_keeps, then_keeps, told_as, told_if}
 use Rattle.css_reader.proofs.RuleLemmas.{braced_keeps, declares_keeps}
 
 -- a block

@@ -8,11 +8,11 @@ use Rattle.css_declarations.specs.declared.fault.SheetFault.{SheetFault}
 use Rattle.css_declarations.specs.TokenKinds.{begins, is_left_brace, is_right_brace}
 use Rattle.css_declarations.proofs.UnitReads.{one_list, one_fault, good_is_not_faulty}
 use Rattle.css_parts.specs.KeyframeGrammar.{Blocks, Offsets, OneBlock, are_closed, block_of, given_in, head_at, is_at_word, offset_at}
-use Rattle.css_parts.specs.Readings.{Read, Exactly, Then, Many, Seen, Listed, Braced, Declares, behind_first, last as second, no_comma, token_at}
-use Rattle.css_parts.specs.Readings.Then.{broken, later, whole}
-use Rattle.css_parts.specs.Readings.Many.{stopped, breaks, more}
-use Rattle.css_parts.specs.Readings.Seen.{unseen, seen}
-use Rattle.css_parts.specs.SelectorGrammar.{Parts, Selector, Selectors, compound_of, ends_compound, part_at}
+use Rattle.css_selectors.specs.Readings.{Read, Exactly, Then, Many, Seen, Listed, Braced, Declares, behind_first, last as second, no_comma, token_at}
+use Rattle.css_selectors.specs.Readings.Then.{broken, later, whole}
+use Rattle.css_selectors.specs.Readings.Many.{stopped, breaks, more}
+use Rattle.css_selectors.specs.Readings.Seen.{unseen, seen}
+use Rattle.css_selectors.specs.SelectorGrammar.{Parts, Selector, Selectors, compound_of, ends_compound, part_at}
 use Rattle.css_reader.specs.SheetGrammar.{AreKeyframes, IsItem, IsRule, Items, is_end_behind, item_by, keyframes_of, rule_of}
 
 abbrev pub IsOne : {A : Type 0} → (List CssToken → Read A → Type 0) → Type 0

@@ -6,7 +6,7 @@ use Rattle.css_declarations.specs.declared.fault.SheetFault.TheVariants.{BadShee
 use Rattle.css_declarations.specs.DeclarationReading.{Tells}
 use Rattle.css_declarations.specs.InlineText.{part_of}
 use Rattle.css_declarations.proofs.InlineLemmas.{one_bad_token, one_tokens, part_fits, tokens_not_bad}
-use Rattle.css_parts.specs.Readings.{Read}
+use Rattle.css_selectors.specs.Readings.{Read}
 use Rattle.css_reader.specs.SheetGrammar.{Item, Items, sheet_of}
 use Rattle.css_reader.specs.SheetState.{SheetState}
 use Rattle.css_reader.specs.SheetText.{IsSheet, IsSheetFault, IsSheetRead, SpellsSheet}

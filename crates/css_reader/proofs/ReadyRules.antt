@@ -14,9 +14,9 @@ use Rattle.css_declarations.specs.TokenKinds.{begins, is_left_brace, is_right_br
 use Rattle.css_declarations.proofs.PairLemmas.{Pairs, each_append, each_as, each_at, each_back, each_front, pairs_at, pairs_back, pairs_cross, pairs_front}
 use Rattle.css_declarations.proofs.PlaceLemmas.{ArePlaced, IsRest, Rising, are_ready, declarations_placed, none_placed, placed_then, rest_rest}
 use Rattle.css_parts.specs.KeyframeGrammar.{Blocks, head_at, is_at_word}
-use Rattle.css_parts.specs.Readings.{Read, Exactly, Then, Braced, Declares, token_at}
-use Rattle.css_parts.specs.Readings.Then.{broken, later, whole}
-use Rattle.css_parts.specs.Readings.Many.{stopped, breaks, more}
+use Rattle.css_selectors.specs.Readings.{Read, Exactly, Then, Braced, Declares, token_at}
+use Rattle.css_selectors.specs.Readings.Then.{broken, later, whole}
+use Rattle.css_selectors.specs.Readings.Many.{stopped, breaks, more}
 use Rattle.css_reader.specs.ReadySheet.{AreReadyRules}
 use Rattle.css_reader.specs.SheetGrammar.{AreKeyframes, IsItem, IsRule, Item, Items, item_by, keyframes, rule, sheet_behind, sheet_of, with_item}
 use Rattle.css_reader.specs.SheetState.{SheetState, no_rules, set_named, with_set, with_set_at}

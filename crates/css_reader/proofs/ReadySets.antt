@@ -24,9 +24,9 @@ use Rattle.css_declarations.specs.ReadyDecls.{IsReadyDecl}
 use Rattle.css_declarations.specs.TokenKinds.{begins, is_word, place_of, is_left_brace, is_right_brace}
 use Rattle.css_declarations.proofs.PairLemmas.{each_append}
 use Rattle.css_parts.specs.KeyframeGrammar.{Blocks, FrameBlock, Offsets, OneBlock, are_closed, block_of, given_in, head_at, is_at_word, is_given, is_percentage, measured, new_offset, offset_at, said_at, set_of, within_set}
-use Rattle.css_parts.specs.Readings.{Read, Exactly, Then, Many, Listed, Braced, Declares, behind_first, last as second, no_comma, token_at}
-use Rattle.css_parts.specs.Readings.Then.{broken, later, whole}
-use Rattle.css_parts.specs.Readings.Many.{stopped, breaks, more}
+use Rattle.css_selectors.specs.Readings.{Read, Exactly, Then, Many, Listed, Braced, Declares, behind_first, last as second, no_comma, token_at}
+use Rattle.css_selectors.specs.Readings.Then.{broken, later, whole}
+use Rattle.css_selectors.specs.Readings.Many.{stopped, breaks, more}
 use Rattle.css_reader.specs.ReadySheet.{IsReadySet, IsReadySheet, AreReadyRules}
 use Rattle.css_reader.specs.SheetGrammar.{AreKeyframes, IsItem, IsRule, Item, Items, is_end_behind, item_by, keyframes, rule, sheet_behind, sheet_of, with_item}
 use Rattle.css_reader.specs.SheetState.{AreNumbered, SheetState, no_rules, set_named, with_set, with_set_at}

@@ -10,12 +10,12 @@ use Rattle.css_declarations.specs.declared.fault.SheetFault.{SheetFault}
 use Rattle.css_declarations.specs.declared.fault.SheetFault.TheVariants.{BadSheet}
 use Rattle.css_declarations.specs.DeclarationFaults.{AreAdded, IsTold}
 use Rattle.css_declarations.specs.TokenKinds.{is_left_brace, is_right_brace}
-use Rattle.css_parts.specs.Readings.{Read, Exactly, Then, Braced, Declares, token_at}
-use Rattle.css_parts.specs.Readings.Then.{broken, later, whole}
-use Rattle.css_parts.specs.SelectorGrammar.{Selectors}
+use Rattle.css_selectors.specs.Readings.{Read, Exactly, Then, Braced, Declares, token_at}
+use Rattle.css_selectors.specs.Readings.Then.{broken, later, whole}
+use Rattle.css_selectors.specs.SelectorGrammar.{Selectors}
 use Rattle.css_reader.specs.SheetGrammar.{IsRule, rule_of}
 use Rattle.css_declarations.proofs.PlaceLemmas.{declarations_placed}
-use Rattle.css_parts.proofs.ReadingLemmas.{IsAtMost, Keeps, rest_is_less, then_keeps, told_as, told_if}
+use Rattle.css_selectors.proofs.ReadingLemmas.{IsAtMost, Keeps, rest_is_less, then_keeps, told_as, told_if}
 
 -- braces
 pub not_opened : {A : Type 0} (end : ℕ) (Inner : List CssToken → Read A → Type 0) (tokens : List CssToken) (fault : SheetFault) → Err fault ≡ token_at is_left_brace end tokens

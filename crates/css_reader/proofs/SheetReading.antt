@@ -12,17 +12,17 @@ use Rattle.css_declarations.specs.DeclarationFaults.{IsTold}
 use Rattle.css_declarations.specs.InlineText.{part_of}
 use Rattle.css_declarations.specs.TokenKinds.{begins, is_ident, token_text}
 use Rattle.css_parts.specs.KeyframeGrammar.{Blocks, head_at, is_at_word, may_name, name_at}
-use Rattle.css_parts.specs.Readings.{Read, Exactly, Declares, IsPut}
-use Rattle.css_parts.specs.Readings.Then.{broken, later, whole}
-use Rattle.css_parts.specs.Readings.Many.{stopped, breaks, more}
-use Rattle.css_parts.specs.SelectorGrammar.{Selector, Selectors}
+use Rattle.css_selectors.specs.Readings.{Read, Exactly, Declares, IsPut}
+use Rattle.css_selectors.specs.Readings.Then.{broken, later, whole}
+use Rattle.css_selectors.specs.Readings.Many.{stopped, breaks, more}
+use Rattle.css_selectors.specs.SelectorGrammar.{Selector, Selectors}
 use Rattle.css_reader.specs.SheetGrammar.{AreKeyframes, IsItem, IsRule, Item, Items, is_end, item_by, sheet_behind, sheet_of, with_item}
 use Rattle.css_reader.specs.SheetState.{SheetState, no_rules}
 use Rattle.css_reader.specs.SheetText.{IsSheetFault, SpellsSheet}
 use Rattle.css_reader.proofs.KeyframeLemmas.{blocks_keep}
-use Rattle.css_parts.proofs.ReadingLemmas.{IsAtMost, Keeps, Leads, listed_keeps, rest_is_less, told_as}
+use Rattle.css_selectors.proofs.ReadingLemmas.{IsAtMost, Keeps, Leads, listed_keeps, rest_is_less, told_as}
 use Rattle.css_reader.proofs.RuleLemmas.{braced_shorter, declares_keeps}
-use Rattle.css_parts.proofs.SelectorLemmas.{selector_keeps}
+use Rattle.css_selectors.proofs.SelectorLemmas.{selector_keeps}
 
 -- an item takes a token or more
 name_keeps : (text : List ℕ) (end : ℕ) (tokens : List CssToken) → IsAtMost tokens (name_at text end tokens)

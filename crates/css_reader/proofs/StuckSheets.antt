@@ -13,10 +13,12 @@ use Rattle.css_declarations.specs.TokenKinds.{begins, is_ident, is_left_brace, i
 use Rattle.css_declarations.proofs.StuckTokens.{AreAlike, IsStuck, stable_as, stuck_as, sticks_as}
 use Rattle.css_declarations.proofs.StuckUnits.{alike_so, declarations_stable, declarations_stick}
 use Rattle.css_parts.specs.KeyframeGrammar.{Blocks, FrameBlock, Offsets, OneBlock, are_closed, block_of, given_in, head_at, is_at_word, may_name, name_at}
-use Rattle.css_parts.specs.Readings.{Read, Exactly, Then, Braced, Declares, token_at}
-use Rattle.css_parts.specs.SelectorGrammar.{Selectors}
-use Rattle.css_parts.proofs.StuckParts.{next_looks, offsets_look, placed_if, rest_if, selectors_look, told_looks}
-use Rattle.css_parts.proofs.StuckReadings.{LooksAhead, StableRead, StuckRead, many_look, then_looks, units_look}
+use Rattle.css_selectors.specs.Readings.{Read, Exactly, Then, Braced, Declares, token_at}
+use Rattle.css_selectors.specs.SelectorGrammar.{Selectors}
+use Rattle.css_parts.proofs.StuckOffsets.{offsets_look}
+use Rattle.css_selectors.proofs.StuckFronts.{next_looks, placed_if, rest_if, told_looks}
+use Rattle.css_selectors.proofs.StuckSelectors.{selectors_look}
+use Rattle.css_selectors.proofs.StuckReadings.{LooksAhead, StableRead, StuckRead, many_look, then_looks, units_look}
 use Rattle.css_reader.specs.SheetGrammar.{AreKeyframes, IsItem, IsRule, Item, Items, is_end, is_end_behind, item_by, keyframes_of, rule_of}
 use Rattle.css_reader.specs.StuckSheets.{IsStuckAt}
 use Rattle.css_reader.proofs.OneReading.{items_one}

@@ -8,8 +8,8 @@ use Rattle.style_tokens.specs.declared.token.CssToken.{CssToken}
 use Rattle.css_declarations.specs.declared.context.Context.TheVariants.{Rule}
 use Rattle.css_declarations.specs.TokenKinds.{begins}
 use Rattle.css_parts.specs.KeyframeGrammar.{FrameBlock, Blocks, head_at, is_at_word, set_of}
-use Rattle.css_parts.specs.Readings.{Read, Exactly, Then, Many, Braced, Declares}
-use Rattle.css_parts.specs.SelectorGrammar.{Selectors}
+use Rattle.css_selectors.specs.Readings.{Read, Exactly, Then, Many, Braced, Declares}
+use Rattle.css_selectors.specs.SelectorGrammar.{Selectors}
 use Rattle.css_reader.specs.SheetState.{SheetState, no_rules, with_rule, with_set}
 
 pub data Item : Type 0 where

@@ -1,12 +1,14 @@
-// The laws of readings.
-ghost use Rattle.std.specs.Prelude.{◌≡◌, ◌⊎◌, [], Err, List as Items, ℕ, Result as Outcome};
+// The laws of readings and of sheets.
+ghost use Rattle.std.specs.Prelude.{◌≡◌, ◌⊎◌, [], Err, List as Items, Some, ℕ, Result as Outcome, false};
+ghost use Rattle.std.specs.Str.{bytes_eq};
+ghost use Rattle.page_model.specs.declared.keyframe.KeyframeSet.{KeyframeSet as SetOfFrames};
 ghost use Rattle.page_model.specs.declared.place.Place.{Place as Part};
 ghost use Rattle.css_declarations.specs.declared.fault.SheetFault.{SheetFault};
 ghost use Rattle.css_declarations.specs.declared.fault.SheetFault.TheVariants.{BadSheet, NoMemory};
 ghost use Rattle.style_tokens.specs.declared.token.CssToken.{CssToken};
 ghost use Rattle.css_reader.specs.SheetGrammar.{Items as Spells};
 ghost use Rattle.css_reader.specs.StuckSheets.{IsStuckAt};
-ghost use Rattle.css_reader.specs.SheetState.{SheetState};
+ghost use Rattle.css_reader.specs.SheetState.{IsNumbered, SheetState, frames_named, with_set};
 ghost use Rattle.css_reader.specs.SheetText.{IsSheet};
 
 /// A text spells one sheet at most, or has one first fault, and not both.
@@ -24,4 +26,14 @@ pub fn every_sheet_is_judged()
 pub fn bad_sheets_are_stuck()
     ensures { (text : Items ℕ) (end : ℕ) (tokens : Items CssToken) (place : ℕ)
         → Spells text end [] tokens (Err (BadSheet place)) → IsStuckAt text end tokens place ⊎ (place ≡ end) }
+{}
+
+/// What a name means in a sheet: a set that is put is the one of its name, and each other name keeps its own.
+pub fn one_set_a_name()
+    ensures named { (sheet : SheetState) (name : Items ℕ) (set : SetOfFrames) → IsNumbered sheet
+        → frames_named (with_set sheet name set) name ≡ Some set }
+    ensures others { (sheet : SheetState) (name other : Items ℕ) (set : SetOfFrames) → IsNumbered sheet → bytes_eq name other ≡ false
+        → frames_named (with_set sheet name set) other ≡ frames_named sheet other }
+    ensures numbered { (sheet : SheetState) (name : Items ℕ) (set : SetOfFrames) → IsNumbered sheet
+        → IsNumbered (with_set sheet name set) }
 {}

@@ -4,7 +4,7 @@ ghost use Rattle.style_tokens.specs.CssTokens.{AreTokens};
 ghost use Rattle.css_declarations.specs.DeclarationReading.{Tells, shown};
 ghost use Rattle.css_declarations.specs.InlineText.{part_of};
 ghost use Rattle.css_declarations.specs.declared.fault.SheetFault.{SheetFault as Fault};
-ghost use Rattle.css_parts.specs.Readings.{Puts};
+ghost use Rattle.css_selectors.specs.Readings.{Puts};
 ghost use Rattle.css_reader.specs.ReadySheet.{IsReadySheet};
 ghost use Rattle.css_reader.specs.SheetGrammar.{IsItem, with_item};
 ghost use Rattle.css_reader.specs.SheetState.{SheetState};

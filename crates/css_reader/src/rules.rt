@@ -2,13 +2,13 @@
 ghost use Rattle.std.specs.Prelude.{◌≡◌, []};
 ghost use Rattle.css_declarations.specs.DeclarationReading.{shown};
 ghost use Rattle.css_declarations.specs.declared.context.Context.TheVariants as contexts;
-ghost use Rattle.css_parts.specs.Readings.{Braced, Declares, Fills, Puts};
+ghost use Rattle.css_selectors.specs.Readings.{Braced, Declares, Fills, Puts};
 ghost use Rattle.css_reader.specs.SheetGrammar.{IsRule, with_item};
 
 use crate::sheet::Sheet;
 use css_declarations::{Context, SheetFault, declarations};
-use css_parts::selectors_at;
 use css_parts::tokens::{close_at, open_at};
+use css_selectors::selectors_at;
 use page_model::{Decl, List, Rule};
 use std::alloc::Global;
 use style_tokens::CssToken;

@@ -1,11 +1,10 @@
 // A style sheet: its rules, and its keyframe sets by name.
-ghost use Rattle.std.specs.Prelude.{◌≡◌, ◌<◌, ◌++◌, ◌∷◌, [], ℕ, false, List as Items, None, Some, length, slice_set, OnErr, OnOk};
+ghost use Rattle.std.specs.Prelude.{◌≡◌, ◌<◌, ◌++◌, ◌∷◌, [], None, length, slice_set, OnErr, OnOk};
 ghost use Rattle.std.specs.Map.{lookup};
 ghost use Rattle.std.specs.Str.{bytes_eq};
 ghost use Rattle.indexmap.specs.IndexMap.{spare};
-ghost use Rattle.page_model.specs.declared.keyframe.KeyframeSet.{KeyframeSet as SetOfFrames};
 ghost use Rattle.css_reader.specs.NameTable.{shown_names};
-ghost use Rattle.css_reader.specs.SheetState.{SheetState, frames_named, no_rules, set_named, with_rule, with_set, AreNumbered, IsNumbered};
+ghost use Rattle.css_reader.specs.SheetState.{no_rules, set_named, with_rule, with_set, AreNumbered, IsNumbered};
 
 use indexmap::IndexMap;
 use page_model::{KeyframeSet, List, Name, NoMemory, Rule};
@@ -108,16 +107,6 @@ impl Sheet {
             None => add(&mut self.sets, &mut self.numbers, alloc, name, set),
         }
     }
-
-    /// What a name means in a sheet: a set that is put is the one of its name, and each other name keeps its own.
-    pub fn one_set_a_name()
-        ensures named { (sheet : SheetState) (name : Items ℕ) (set : SetOfFrames) → IsNumbered sheet
-            → frames_named (with_set sheet name set) name ≡ Some set }
-        ensures others { (sheet : SheetState) (name other : Items ℕ) (set : SetOfFrames) → IsNumbered sheet → bytes_eq name other ≡ false
-            → frames_named (with_set sheet name set) other ≡ frames_named sheet other }
-        ensures numbered { (sheet : SheetState) (name : Items ℕ) (set : SetOfFrames) → IsNumbered sheet
-            → IsNumbered (with_set sheet name set) }
-    {}
 }
 
 /// The number of a name, `None` exactly where the table hasn't the name.

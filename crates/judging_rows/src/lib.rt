@@ -1,25 +1,15 @@
-//! Rows of judging: light, chains, cells, areas, horizons, verdicts and witnesses, with the values that they must have.
+//! Rows of judging: cells, their edges and tints, parts, horizons and verdicts, with the values that they must have.
 //!
 //! Nothing stands on this crate, and it has no function but tests. The clauses say that an answer is the
 //! definition's; a row says that the definition gives what was meant, and that memory isn't refused where there
-//! is enough of it. The rows come from outside, by an independent reckoning and from another writer and reader
-//! of JSON. Scenes are those of sample pages, and each table goes through one call.
+//! is enough of it. The rows come from outside, by an independent reckoning. Scenes are those of sample pages, and
+//! each table goes through one call.
 #![tactic(auto)]
 
 #[cfg(test)]
-mod areas;
-#[cfg(test)]
 mod cells;
 #[cfg(test)]
-mod chains;
-#[cfg(test)]
-mod conditions;
-#[cfg(test)]
 mod horizons;
-#[cfg(test)]
-mod judgements;
-#[cfg(test)]
-mod light;
 #[cfg(test)]
 mod moves;
 #[cfg(test)]
@@ -28,7 +18,5 @@ mod opening;
 mod parts;
 #[cfg(test)]
 mod rates;
-#[cfg(test)]
-mod texts;
 #[cfg(test)]
 mod verdicts;

@@ -1,4 +1,3 @@
-mod EvenLemmas
 pub mod FirstLemmas
 pub mod JudgementLemmas
 mod KeptLemmas

@@ -19,7 +19,8 @@ use Rattle.frame_state.specs.States.{AreOwn}
 use Rattle.tint_laws.proofs.AlikeLemmas.{tint-same}
 use Rattle.wide_laws.proofs.LooseLemmas.{loose_state-unique}
 use Rattle.witness_checks.specs.Faults.{HaveTintsBefore, IsFirstWrongPixel, IsFirstWrongTint, IsTimed, LiesInWindow}
-use Rattle.witness_checks.specs.OwnTints.{AllHaveTint, IsFirstWrongOf, IsFirstWrongTurn, IsOwnIn}
+use Rattle.even_parts.specs.Even.{AllHaveTint}
+use Rattle.witness_checks.specs.OwnTints.{IsFirstWrongOf, IsFirstWrongTurn, IsOwnIn}
 
 -- states of the own kind give one tint
 pub own-tint-same : (scene : Scene) (setup : Setup) (frame : ℕ) (loose other : ℕ → LooseState) → IsValid scene → AreOwn scene setup frame loose

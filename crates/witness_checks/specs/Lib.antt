@@ -1,4 +1,3 @@
-pub mod Even
 pub mod Faults
 pub mod Judgement
 pub mod Kept

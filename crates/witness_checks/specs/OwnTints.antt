@@ -20,10 +20,6 @@ pub record IsFirstWrongColumn (tint_at : ℕ → ℕ → Tint) (part : Part) (ti
   pub wrong : tint_at column row ≡ tint → ⊥
   pub before : (c : ℕ) → part.x ≤ c → c < column → tint_at c row ≡ tint
 
--- all pixels of a part have a tint
-abbrev pub AllHaveTint : (ℕ → ℕ → Tint) → Part → Tint → Type 0
-AllHaveTint tint_at part tint = (column row : ℕ) → IsOfPart part column row → tint_at column row ≡ tint
-
 -- a pixel is the first that hasn't: row by row, and column by column in a row
 pub record IsFirstWrongOf (tint_at : ℕ → ℕ → Tint) (part : Part) (tint : Tint) (column row : ℕ) : Type 0 where
   pub inside : IsOfPart part column row

@@ -14,7 +14,6 @@
 mod accepting;
 mod area;
 mod change;
-mod even;
 mod fault;
 mod frames;
 mod kept;

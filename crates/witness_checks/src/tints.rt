@@ -9,10 +9,11 @@ ghost use Rattle.frame_state.specs.States.{AreOwn, states_as};
 ghost use Rattle.paint_blend.specs.Paint.{AreReady};
 ghost use Rattle.witness_checks.specs.Faults.{HoldsOwnTints, IsTimed, IsWrongTint};
 ghost use Rattle.witness_checks.specs.Kept.{IsKept};
-ghost use Rattle.witness_checks.specs.OwnTints.{AllHaveTint, IsFirstWrongColumn, IsFirstWrongOf, IsFirstWrongTurn, IsOwnIn, RowHasTint};
+ghost use Rattle.even_parts.specs.Even.{AllHaveTint};
+ghost use Rattle.witness_checks.specs.OwnTints.{IsFirstWrongColumn, IsFirstWrongOf, IsFirstWrongTurn, IsOwnIn, RowHasTint};
 
-use crate::even::are_painted_evenly;
 use crate::kept::{KeptStates, NO_STATES};
+use even_parts::are_painted_evenly;
 use frame_state::LayerState;
 use page_model::{Part, Scene, Setup, Tint, Witness};
 use paint_blend::tint_of;

@@ -1,6 +1,6 @@
 // Colours with alpha: how they are written, painted and interpolated.
-use crate::running::{CHECK, Page, Row};
 use flash_top::Status;
+use row_runs::{CHECK, Page, Row};
 
 /// The tint of the first pixel in the first frame.
 const FIRST: &str = "tint p 1024x768 60 0 0 0";

@@ -1,6 +1,6 @@
 // Pages that the judge judges, and that are no lamps of one animation: boxes that flash, and bodies of one animation.
-use crate::running::{CHECK, Page, Row};
 use flash_top::Status;
+use row_runs::{CHECK, Page, Row};
 
 /// Boxes that are black for an eighth of a second and white for another, twenty times.
 const FLASH: &str =

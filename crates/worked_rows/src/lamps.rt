@@ -1,10 +1,6 @@
 // Lamps: pages of two greys, at the thresholds.
-use crate::running::{CHECK, Page, Row};
 use flash_top::Status;
-
-pub const BLACK_AND_WHITE: &str =
-    r#"{"area":87296,"height":768,"parts":[{"frames":[0,8,15,23,30,38,45,53,60],"height":256,"kind":"general","tints":["000000","ffffff","000000","ffffff","000000","ffffff","000000","ffffff","000000"],"width":341,"x":0,"y":0}],"rate":60,"start":0,"verdict":"fail","version":1,"width":1024,"x":0,"y":0}
-"#;
+use row_runs::{BLACK_AND_WHITE, CHECK, Page, Row};
 
 const BLACK_AND_GREY: &str =
     r#"{"area":87296,"height":768,"parts":[{"frames":[0,8,15,23,30,38,45,53,60],"height":256,"kind":"general","tints":["000000","5a5a5a","000000","5a5a5a","000000","5a5a5a","000000","5a5a5a","000000"],"width":341,"x":0,"y":0}],"rate":60,"start":0,"verdict":"fail","version":1,"width":1024,"x":0,"y":0}

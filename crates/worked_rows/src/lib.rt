@@ -4,7 +4,7 @@
 //! Nothing stands on this crate, and it has no function but tests. A clause says what a run means; a row
 //! says that what was meant is what was written down, and that memory isn't refused where there is enough
 //! of it. Rows are tables, named by what they show; all that are of one page go through one call, so that few
-//! goals have to be proved.
+//! goals have to be proved. Rows of rhythms, limits and failing ends stand in `ending_rows`.
 #![tactic(auto)]
 
 #[cfg(test)]
@@ -12,25 +12,13 @@ mod alpha;
 #[cfg(test)]
 mod boxes;
 #[cfg(test)]
-mod edge;
-#[cfg(test)]
-mod endless;
-#[cfg(test)]
-mod ends;
-#[cfg(test)]
-mod fronts;
-#[cfg(test)]
 mod lamps;
-#[cfg(test)]
-mod limits;
 #[cfg(test)]
 mod pages;
 #[cfg(test)]
 mod rates;
 #[cfg(test)]
 mod red;
-#[cfg(test)]
-mod running;
 #[cfg(test)]
 mod sheets;
 #[cfg(test)]

@@ -1,6 +1,6 @@
 // Pages that are refused, and the places where bytes cease to be a page.
-use crate::running::{CHECK, Page, Row};
 use flash_top::Status;
+use row_runs::{CHECK, Page, Row};
 
 pub const PAGES: [Row; 10] = [
     Row {

@@ -1,7 +1,6 @@
 // Rates over 1,001, as video has them.
-use crate::lamps::BLACK_AND_WHITE;
-use crate::running::{Page, Row, Verified};
 use flash_top::Status;
+use row_runs::{BLACK_AND_WHITE, Page, Row, Verified};
 
 const AT_VIDEO: &str = "check p 1024x768 60000/1001";
 

@@ -1,6 +1,6 @@
 // Red flashes.
-use crate::running::{CHECK, Page, Row, Verified};
 use flash_top::Status;
+use row_runs::{CHECK, Page, Row, Verified};
 
 /// Red and green of nearly the same luminance.
 const RED_AND_GREEN: Page = Page::Lamp("#ff0000", "#008000", "250ms steps(1) 20");

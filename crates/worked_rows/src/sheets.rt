@@ -1,6 +1,6 @@
 // Style text and elements that are refused, and pages on which nothing is animated.
-use crate::running::{CHECK, Page, Row};
 use flash_top::Status;
+use row_runs::{CHECK, Page, Row};
 
 pub const SHEETS: [Row; 10] = [
     Row {

@@ -1,6 +1,6 @@
 // The words that open no file: how light a colour is, the page that is made from a number, and what isn't understood.
-use crate::running::{is_told, run_on};
 use flash_top::Status;
+use row_runs::{is_told, run_on};
 use std::alloc::Global;
 use std::test::Fail;
 

@@ -1,6 +1,6 @@
 // The tint of a pixel in a frame.
-use crate::running::{Page, Row};
 use flash_top::Status;
+use row_runs::{Page, Row};
 
 /// A black box with half its opacity, of which half a column is left of the viewport.
 const HALF: &str =

@@ -1,6 +1,6 @@
 // Witnesses of a lamp that flashes, accepted and refused.
-use crate::running::{CHECK, Page, WHOLE, bytes_of, is_told, run_between, run_on};
 use flash_top::Status;
+use row_runs::{CHECK, Page, WHOLE, bytes_of, is_told, run_between, run_on};
 use std::alloc::Global;
 use std::test::Fail;
 

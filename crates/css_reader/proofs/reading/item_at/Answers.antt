@@ -1,5 +1,5 @@
 use Rattle.std.proofs.Common.{◌∙◌, sym, subst, Bool}
-use Rattle.css_parts.specs.Readings.{Puts}
+use Rattle.css_selectors.specs.Readings.{Puts}
 use Rattle.css_reader.specs.SheetGrammar.{item_by, with_item}
 use Rattle.css_declarations.specs.DeclarationReading.{shown}
 use Rattle.css_reader.proofs.reading.item_at.Goals as goal

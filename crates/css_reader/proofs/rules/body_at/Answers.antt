@@ -1,4 +1,4 @@
-use Rattle.css_parts.specs.Readings.{Declares}
+use Rattle.css_selectors.specs.Readings.{Declares}
 use Rattle.css_reader.proofs.RuleLemmas.{not_opened, inner_broken, not_closed, in_braces, are_all}
 use Rattle.css_reader.proofs.rules.body_at.Goals as goal
 

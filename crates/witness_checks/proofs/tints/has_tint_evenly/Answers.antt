@@ -1,8 +1,8 @@
 -- The first pixel's tint is that of all.
 use Rattle.std.proofs.Common.{ℕ, ◌≡◌, ◌∙◌, refl, rules, subst, sym}
 use Rattle.frame_state.specs.States.{states_as}
-use Rattle.witness_checks.specs.Even.{ArePaintedEvenly}
-use Rattle.witness_checks.proofs.EvenLemmas.{tint-even}
+use Rattle.even_parts.specs.Even.{ArePaintedEvenly}
+use Rattle.even_parts.proofs.EvenLemmas.{tint-even}
 use Rattle.witness_checks.proofs.tints.has_tint_evenly.Goals as goal
 
 pub returns : goal.returns

@@ -4,7 +4,8 @@ use Rattle.page_model.specs.Enclosure.{LooseState}
 use Rattle.page_model.specs.TintOf.{tint_of}
 use Rattle.frame_state.specs.States.{AreOwn, states_as}
 use Rattle.witness_checks.specs.Kept.{AreStatesIn}
-use Rattle.witness_checks.specs.OwnTints.{AllHaveTint, IsFirstWrongOf}
+use Rattle.even_parts.specs.Even.{AllHaveTint}
+use Rattle.witness_checks.specs.OwnTints.{IsFirstWrongOf}
 use Rattle.witness_checks.proofs.TintLemmas.{all-same, first_wrong-same, matched, own-tint-same}
 use Rattle.witness_checks.proofs.tints.wrong_in_frame.Goals as goal
 

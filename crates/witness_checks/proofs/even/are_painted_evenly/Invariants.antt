@@ -1,6 +1,0 @@
-use Rattle.frame_state.specs.States.{states_as}
-use Rattle.witness_checks.specs.Even.{ArePaintedEvenly}
-use Rattle.witness_checks.proofs.even.are_painted_evenly.Given as goal
-
-abbrev pub invariant-loop-number : goal.invariant-loop-number
-invariant-loop-number l = ArePaintedEvenly (states_as l.states) l.number l.part
