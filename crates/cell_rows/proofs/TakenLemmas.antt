@@ -1,12 +1,12 @@
 -- One row after another is taken, or given back.
-use Rattle.std.proofs.Common.{arith, refl, ap, sym, subst, inl, inr, ◌∙◌, ℕ, ◌≡◌, ◌+◌, ◌<◌, ◌≤◌, ◌≢◌, Bool, true, false, Option, List, length, get_or, set}
+use Rattle.std.proofs.Common.{arith, refl, ap, sym, subst, inl, inr, ◌∙◌, ℕ, ◌≡◌, ◌+◌, ◌<◌, ◌≤◌, Bool, true, false, Option, List, length, get_or, set}
 use Rattle.std.specs.Prelude.{Some, None}
 use Rattle.std.proofs.lemmas.Bool.{cases_eq, cases_lt, true≢false}
 use Rattle.std.proofs.lemmas.List.{get_or-set_same, get_or-set_other, get_or_default, get_or_past, length-set}
 use Rattle.row_pool.specs.declared.pool.RowId.{RowId}
 use Rattle.row_pool.specs.Rows.{Rows}
 use Rattle.row_pool.specs.Pools.{IsFree, IsOut, IsTaking, given_back, handed_out}
-use Rattle.cell_rows.specs.CellRows.{AreAllFree, AreAllOut, AreGiven, AreTaken}
+use Rattle.cell_rows.specs.CellRows.{AreAllFree, AreGiven, AreTaken}
 
 -- a number that is free or out is one of the pool
 free-known : (free : List Bool) (number : ℕ) → get_or free number false ≡ true → number < length free

@@ -1,5 +1,5 @@
 -- Rows of a pool that stand for the tints of cells: the row of a cell has the cell's number.
-use Rattle.std.specs.Prelude.{ℕ, false, true, ◌≡◌, ◌+◌, ◌*◌, ◌<◌, ◌≤◌, List, [], ◌∷◌, ◌++◌, length, slice_index_or}
+use Rattle.std.specs.Prelude.{ℕ, false, ◌≡◌, ◌+◌, ◌*◌, ◌<◌, ◌≤◌, List, [], ◌∷◌, ◌++◌, length, slice_index_or}
 use Rattle.page_model.specs.declared.colour.Tint.{Tint}
 use Rattle.flash_count.specs.declared.tracking.Flag.{Flag}
 use Rattle.flash_count.specs.Rows.{StandsFor}
