@@ -9,9 +9,10 @@ use Rattle.page_model.specs.Time.{window_of}
 use Rattle.cell_flags.specs.Flags.{AreAlikeCells, AreSeenAs, IsFlagOf}
 use Rattle.cell_groups.specs.Groups.{AreGroups, Grouping, first_of}
 use Rattle.cell_rows.specs.CellRows.{AreAllFree, AreRoomy}
-use Rattle.cell_tints.specs.Tints.{cells_of}
+use Rattle.cell_tints.specs.Tints.{AreStatesIn, AreTintsIn, cells_of}
 use Rattle.flash_count.specs.declared.tracking.Flag.{Flag}
 use Rattle.flash_count.specs.Rows.{StandsFor}
+use Rattle.frame_state.specs.declared.types.LayerState.{LayerState}
 use Rattle.region_split.specs.declared.types.Rect.{Rect}
 use Rattle.region_split.specs.Cutting.{Edges, cell_of}
 use Rattle.row_pool.specs.Pools.{row_of}
@@ -105,6 +106,17 @@ IsTold scene setup edges windows (Undecided (reason.Work cells frames)) = ⊥
 IsTold scene setup edges windows (Undecided (reason.Enclosure start x y)) =
     IsToldUndecided scene setup edges windows start x y
 
+-- states are those of all layers in a frame, and tints those of all groups of cells
+pub record ArePainted (scene : Scene) (setup : Setup) (edges : Edges) (groups : Grouping) (frame : ℕ)
+    (states : List LayerState) (tints : List Tint) : Type 0 where
+  pub states_are : AreStatesIn scene setup frame states
+  pub tints_are : AreTintsIn scene setup edges frame groups.firsts (groups_in groups) tints
+
+-- they are those in the frame before, where there is one
+abbrev pub ArePaintedBefore : Scene → Setup → Edges → Grouping → ℕ → List LayerState → List Tint → Type 0
+ArePaintedBefore scene setup edges groups frame states tints =
+    0 < frame → ArePainted scene setup edges groups (frame - 1) states tints
+
 -- each layer covers two pixels of one cell alike in some frames, and the cells of one group, and a frame is one of them
 pub record AreAlikeAt (scene : Scene) (setup : Setup) (edges : Edges) (groups : Grouping) (frame : ℕ) : Type 0 where
   pub frames : ℕ
@@ -125,6 +137,7 @@ pub record HasRows (rate cells : ℕ) (pool : Rows) : Type 0 where
 -- each list has a place for each of so many layers, cells or groups
 pub record HasPlaces (layers cells groups : ℕ) (room : Room) : Type 0 where
   pub states : length room.states.items ≡ layers
+  pub next : length room.next.items ≡ layers
   pub tints : length room.tints.items ≡ groups
   pub flags : length room.flags.items ≡ groups
   pub marks : length room.marks.items ≡ cells

@@ -9,15 +9,52 @@ ghost use Rattle.page_model.specs.Horizon.{frames_for};
 ghost use Rattle.page_model.specs.Time.{window_of};
 ghost use Rattle.page_model.specs.ValidScene.{IsValid};
 ghost use Rattle.row_pool.specs.Pools.{row_of};
-ghost use Rattle.sweep.specs.Swept.{AreAlikeAt, AreAllBegun, HasPlaces, IsFoundIn, IsRoom, IsSwept, groups_in};
+ghost use Rattle.sweep.specs.Swept.{AreAlikeAt, AreAllBegun, ArePainted, ArePaintedBefore, HasPlaces, IsFoundIn, IsRoom, IsSwept, groups_in};
 
 use crate::room::Room;
 use crate::windows::{Found, look};
 use cell_groups::Groups;
 use cell_rows::{begin_rows, give_rows, push_frame, take_rows};
-use cell_tints::tints_in_frame;
+use cell_tints::{next_tints, tints_in_frame};
 use page_model::{Scene, Setup};
 use region_split::Cuts;
+use std::mem;
+
+/// Works out the tints of all groups of cells in a frame, from those of the frame before it where there is one.
+fn paint(scene: &Scene, setup: &Setup, cuts: &Cuts, groups: &Groups, frame: u32, room: &mut Room)
+    requires valid { IsValid scene.now }
+    requires cells { AreAlikeAt scene.now setup.now cuts.now groups.now frame }
+    requires places { HasPlaces (length scene.now.layers) (cells_of cuts.now) (groups_in groups.now) room.old }
+    requires before { ArePaintedBefore scene.now setup.now cuts.now groups.now frame room.old.states.items room.old.tints.items }
+    ensures painted { ArePainted scene.now setup.now cuts.now groups.now frame room.new.states.items room.new.tints.items }
+    ensures places { HasPlaces (length scene.now.layers) (cells_of cuts.now) (groups_in groups.now) room.new }
+    ensures pool { room.new.pool ≡ room.old.pool }
+{
+    let firsts = groups.firsts();
+    if frame == 0 {
+        tints_in_frame(
+            scene,
+            setup,
+            cuts,
+            firsts,
+            frame,
+            room.states.as_mut_slice(),
+            room.tints.as_mut_slice(),
+        );
+        return;
+    }
+    next_tints(
+        scene,
+        setup,
+        cuts,
+        firsts,
+        frame,
+        room.states.as_slice(),
+        room.next.as_mut_slice(),
+        room.tints.as_mut_slice(),
+    );
+    mem::swap(&mut room.states, &mut room.next);
+}
 
 /// Sees all groups of cells in the next frame, and looks at the window that ends there.
 fn step(
@@ -33,21 +70,15 @@ fn step(
     requires few { frame < 2 ^ 31 }
     requires cells { AreAlikeAt scene.now setup.now cuts.now groups.now frame }
     requires places { HasPlaces (length scene.now.layers) (cells_of cuts.now) (groups_in groups.now) room.old }
+    requires before { ArePaintedBefore scene.now setup.now cuts.now groups.now frame room.old.states.items room.old.tints.items }
     requires swept { IsSwept scene.now setup.now cuts.now groups.now frame room.old.pool found }
+    ensures painted { ArePainted scene.now setup.now cuts.now groups.now frame room.new.states.items room.new.tints.items }
     ensures swept { IsSwept scene.now setup.now cuts.now groups.now (frame + 1) room.new.pool result }
     ensures places { HasPlaces (length scene.now.layers) (cells_of cuts.now) (groups_in groups.now) room.new }
     ensures only { OnlyRows (groups_in groups.now) room.old.pool room.new.pool }
 {
     let rate = setup.rate();
-    tints_in_frame(
-        scene,
-        setup,
-        cuts,
-        groups.firsts(),
-        frame,
-        room.states.as_mut_slice(),
-        room.tints.as_mut_slice(),
-    );
+    paint(scene, setup, cuts, groups, frame, room);
     push_frame(
         &mut room.pool,
         rate,

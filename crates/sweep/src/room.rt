@@ -26,6 +26,8 @@ pub(crate) struct Room {
     pub(crate) pool: Pool,
     /// The states of the layers in the frame.
     pub(crate) states: Vec<LayerState>,
+    /// Written over by those in the next frame.
+    pub(crate) next: Vec<LayerState>,
     pub(crate) tints: Vec<Tint>,
     pub(crate) flags: Vec<Flag>,
     /// Which cells are flagged by the sort that is asked.
@@ -55,6 +57,7 @@ impl Room {
     {
         let pool = Pool::open(alloc, cells, row_words(rate))?;
         let states = vec![in alloc; NOTHING; layers]?;
+        let next = vec![in alloc; NOTHING; layers]?;
         let tints = vec![in alloc; BLACK; groups]?;
         let flags = vec![in alloc; UNFLAGGED; groups]?;
         let marks = vec![in alloc; false; cells as usize]?;
@@ -62,6 +65,7 @@ impl Room {
         Ok(Room {
             pool,
             states,
+            next,
             tints,
             flags,
             marks,
