@@ -7,6 +7,7 @@ use Rattle.cell_groups.specs.Groups.{Grouping, group_of}
 use Rattle.flash_count.specs.declared.tracking.Flag.{Flag}
 use Rattle.region_split.specs.Cutting.{Edges}
 use Rattle.window_area.specs.FlaggedArea.{HoldsAtMost}
+use Rattle.sweep.specs.declared.windows.Found.{Found}
 use Rattle.sweep.specs.declared.windows.Sort.{Sort}
 use Rattle.sweep.specs.declared.windows.Sort.TheVariants.{Possible, Sure}
 
@@ -72,3 +73,8 @@ IsFinding sort edges flags start found = MatchOption found (AreFew sort edges fl
 abbrev pub IsLookedAt : Sort → Edges → List Flag → ℕ → Option BadWindow → Option BadWindow → Type 0
 IsLookedAt sort edges flags start None new = IsFinding sort edges flags start new
 IsLookedAt sort edges flags start (Some window) new = new ≡ Some window
+
+-- so it is for both sorts
+pub record AreLookedAt (edges : Edges) (flags : List Flag) (start : ℕ) (before after : Found) : Type 0 where
+  pub sure : IsLookedAt Sure edges flags start before.sure after.sure
+  pub possible : IsLookedAt Possible edges flags start before.possible after.possible

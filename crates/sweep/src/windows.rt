@@ -7,7 +7,7 @@ ghost use Rattle.region_split.specs.Cutting.{Edges};
 ghost use Rattle.sweep.specs.declared.windows.Sort.TheVariants.{Possible, Sure};
 ghost use Rattle.sweep.specs.Few.{AreNested, AreUnflagged, IsNested, IsUnflagged};
 ghost use Rattle.sweep.specs.Swept.{IsFoundIn, IsTold};
-ghost use Rattle.sweep.specs.Told.{AreMarksOf, HaveFlags, IsFinding, IsLookedAt, spread, told};
+ghost use Rattle.sweep.specs.Told.{AreLookedAt, AreMarksOf, HaveFlags, IsFinding, IsLookedAt, spread, told};
 
 use crate::types::{Reason, Verdict};
 use cell_groups::Groups;
@@ -195,8 +195,7 @@ fn look_at_flagged(
     requires flags { HaveFlags cuts.now groups.now flags.now }
     requires marks { length marks.old ≡ cells_between cuts.now.xs cuts.now.ys }
     requires work { length work.old ≡ cells_between cuts.now.xs cuts.now.ys }
-    ensures sure { IsLookedAt Sure cuts.now (spread groups.now flags.now) start found.sure result.sure }
-    ensures possible { IsLookedAt Possible cuts.now (spread groups.now flags.now) start found.possible result.possible }
+    ensures { AreLookedAt cuts.now (spread groups.now flags.now) start found result }
 {
     let possible = look_for(
         Sort::Possible,
