@@ -27,7 +27,8 @@ abbrev row_at : Edges → List ℕ → ℕ → ℕ
 row_at edges chosen i = (cell_of edges.xs edges.ys (slice_index chosen i)).y
 
 -- states in their slots are ready to be painted
-pub slots-ready : (scene : Scene) (states : List LayerState) → length states ≡ length scene.layers → AreInSlots scene (states_as states)
+pub slots-ready : (scene : Scene) (states : List LayerState) → length states ≡ length scene.layers
+    → AreInSlots scene (states_as states)
     → AreAllReady states
 slots-ready scene states long ranges number there = ranges number (omega (arith, long, there))
 
@@ -70,13 +71,15 @@ pub record AreTintsTill (scene : Scene) (edges : Edges) (chosen : List ℕ) (bef
       → tint ≡ tint_of scene (states_as before) (column_at edges chosen i) (row_at edges chosen i)
 
 pub till-all : (scene : Scene) (edges : Edges) (chosen : List ℕ) (before states : List LayerState) (count : ℕ) (tints : List Tint)
-    → length tints ≤ count → AreTintsTill scene edges chosen before states count tints → AreTintsBy scene edges chosen states tints
+    → length tints ≤ count → AreTintsTill scene edges chosen before states count tints
+    → AreTintsBy scene edges chosen states tints
 till-all scene edges chosen before states count tints long are i tint there =
     let within = slice_get_within tints i tint there in are.first i tint (omega (arith, within, long)) there
 
 -- the tint before of the next cell
 pub till-next : (scene : Scene) (edges : Edges) (chosen : List ℕ) (before states : List LayerState) (i x y : ℕ) (tints : List Tint) (d : Tint)
-    → AreTintsTill scene edges chosen before states i tints → i < length tints → column_at edges chosen i ≡ x → row_at edges chosen i ≡ y
+    → AreTintsTill scene edges chosen before states i tints → i < length tints → column_at edges chosen i ≡ x
+    → row_at edges chosen i ≡ y
     → get_or tints i d ≡ tint_of scene (states_as before) x y
 till-next scene edges chosen before states i x y tints d are there column row =
     are.rest i (get_or tints i d) (omega arith) (slice_get-get_or tints i d there)
@@ -84,8 +87,10 @@ till-next scene edges chosen before states i x y tints d are there column row =
 
 -- it is written
 pub till-more : (scene : Scene) (edges : Edges) (chosen : List ℕ) (before states : List LayerState) (i x y : ℕ) (old : List Tint) (tint : Tint)
-    → AreTintsTill scene edges chosen before states i old → i < length old → column_at edges chosen i ≡ x → row_at edges chosen i ≡ y
-    → tint ≡ tint_of scene (states_as states) x y → AreTintsTill scene edges chosen before states (i + 1) (set old i tint)
+    → AreTintsTill scene edges chosen before states i old → i < length old → column_at edges chosen i ≡ x
+    → row_at edges chosen i ≡ y
+    → tint ≡ tint_of scene (states_as states) x y
+    → AreTintsTill scene edges chosen before states (i + 1) (set old i tint)
 till-more scene edges chosen before states i x y old tint are inside column row is = record {
   first = λ k other below e. elim (cases_eq k i) [
     | inl same ↦
@@ -108,7 +113,8 @@ till-more scene edges chosen before states i x y old tint are inside column row 
 
 -- the states that were worked out for a frame
 pub states-in : (scene : Scene) (setup : Setup) (worked_out frame : ℕ) (states : List LayerState) → worked_out ≡ frame
-    → length states ≡ length scene.layers → AreOwn scene setup worked_out (states_as states) → AreInSlots scene (states_as states)
+    → length states ≡ length scene.layers → AreOwn scene setup worked_out (states_as states)
+    → AreInSlots scene (states_as states)
     → AreStatesIn scene setup frame states
 states-in scene setup worked_out frame states is long own ranges = record {
   long = long;

@@ -47,7 +47,8 @@ pub same-there : (before now : List LayerState) (i : ℕ) (d e : LayerState) →
 same-there before now i d e long there same =
     slice_get-get_or before i d (omega (arith, long, there)) ∙ ap Some same ∙ sym (slice_get-get_or now i e there)
 
-pub differ-there : (before now : List LayerState) (i : ℕ) (d e : LayerState) → length before ≡ length now → i < length now
+pub differ-there : (before now : List LayerState) (i : ℕ) (d e : LayerState) → length before ≡ length now
+    → i < length now
     → get_or before i d ≢ get_or now i e → slice_get before i ≢ slice_get now i
 differ-there before now i d e long there differs same =
     let first = slice_get-get_or before i d (omega (arith, long, there)) in
@@ -66,7 +67,8 @@ abbrev AreAlike : List LayerState → List LayerState → ℕ → ℕ → ℕ �
 AreAlike before now column row number =
     (tint : Tint) → tint_box (states_as now) column row tint number ≡ tint_box (states_as before) column row tint number
 
-boxes-alike : (before now : List LayerState) (column row : ℕ) (order : List ℕ) (tint : Tint) → All (AreAlike before now column row) order
+boxes-alike : (before now : List LayerState) (column row : ℕ) (order : List ℕ) (tint : Tint)
+    → All (AreAlike before now column row) order
     → fold (tint_box (states_as now) column row) tint order ≡ fold (tint_box (states_as before) column row) tint order
 boxes-alike before now column row [] tint are = refl
 boxes-alike before now column row (number ∷ rest) tint are =
@@ -100,7 +102,8 @@ body-alike before now changed column row are missed there =
       | inr same ↦ same-state before now 0 same
     ]
 
-pub tint-kept : (scene : Scene) (before now : List LayerState) (changed : List ℕ) (column row : ℕ) → AreChanged before now changed
+pub tint-kept : (scene : Scene) (before now : List LayerState) (changed : List ℕ) (column row : ℕ)
+    → AreChanged before now changed
     → All (MissesBoth before now column row) changed → IsValid scene → length now ≡ length scene.layers
     → tint_of scene (states_as now) column row ≡ tint_of scene (states_as before) column row
 tint-kept scene before now changed column row are missed valid long =
@@ -114,7 +117,8 @@ tint-kept scene before now changed column row are missed valid long =
     box-alike before now changed column row (get_or scene.order k d) are missed (omega (arith, box.1, long)))
 
 -- states with the same parts are the same
-pub state-same : (first second : LayerState) → HaveSameColour first second → HaveSamePlace first second → first.shown ≡ second.shown → first ≡ second
+pub state-same : (first second : LayerState) → HaveSameColour first second → HaveSamePlace first second
+    → first.shown ≡ second.shown → first ≡ second
 state-same first second colour place shown =
     λ i. record {
       shown = shown i;

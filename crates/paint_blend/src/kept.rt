@@ -78,8 +78,7 @@ fn is_same(first: &LayerState, second: &LayerState) -> bool
     shown_alike(first.shown, second.shown)
 }
 
-/// Writes the numbers of the layers whose state differs from the one before, in their order, and tells how many they
-/// are.
+/// Writes the numbers of the layers whose state differs from the one before, and tells how many were written.
 pub fn changed_in(before: &[LayerState], now: &[LayerState], changed: &mut [u16]) -> usize
     requires same { length before.now ≡ length now.now }
     requires few { length now.now < 2 ^ 16 }

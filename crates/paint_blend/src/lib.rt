@@ -7,7 +7,8 @@
 //! loose ones, and [`tint`] those of a frame. The key clause is that a tint is that of the definitions,
 //! whatever the states are: a hull where a box may or may not be there, and both ends of each blending. So
 //! `tint` holds the pixel's exact colour, and lies in the tint by states of the wide kind; by exact states a
-//! tint is a single colour, the one that they paint. No call takes memory.
+//! tint is a single colour, the one that they paint. From one frame to the next few layers change: [`changed_in`] tells
+//! which, and [`is_kept`] whether none of them may be at a pixel, so that its tint stays. No call takes memory.
 //!
 //! Which pixels always look alike, and what a change of colour means, is not said here.
 #![tactic(auto)]

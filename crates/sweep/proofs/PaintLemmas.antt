@@ -11,7 +11,8 @@ use Rattle.sweep.specs.Swept.{ArePainted, ArePaintedBefore}
 
 -- what was written stands in the lists
 pub painted-there : (scene : Scene) (setup : Setup) (edges : Edges) (groups : Grouping) (frame : ℕ) (firsts : List ℕ)
-    (written states : List LayerState) (told tints : List Tint) → firsts ≡ groups.firsts → states ≡ written → tints ≡ told
+    (written states : List LayerState) (told tints : List Tint) → firsts ≡ groups.firsts → states ≡ written
+    → tints ≡ told
     → AreStatesIn scene setup frame written → AreTintsIn scene setup edges frame firsts (length firsts) told
     → ArePainted scene setup edges groups frame states tints
 painted-there scene setup edges groups frame firsts written states told tints first same alike are tinted = record {

@@ -25,8 +25,10 @@ fn paint(scene: &Scene, setup: &Setup, cuts: &Cuts, groups: &Groups, frame: u32,
     requires valid { IsValid scene.now }
     requires cells { AreAlikeAt scene.now setup.now cuts.now groups.now frame }
     requires places { HasPlaces (length scene.now.layers) (cells_of cuts.now) (groups_in groups.now) room.old }
-    requires before { ArePaintedBefore scene.now setup.now cuts.now groups.now frame room.old.states.items room.old.tints.items }
-    ensures painted { ArePainted scene.now setup.now cuts.now groups.now frame room.new.states.items room.new.tints.items }
+    requires before { ArePaintedBefore scene.now setup.now cuts.now groups.now frame
+        room.old.states.items room.old.tints.items }
+    ensures painted { ArePainted scene.now setup.now cuts.now groups.now frame
+        room.new.states.items room.new.tints.items }
     ensures places { HasPlaces (length scene.now.layers) (cells_of cuts.now) (groups_in groups.now) room.new }
     ensures pool { room.new.pool ≡ room.old.pool }
 {
@@ -70,9 +72,11 @@ fn step(
     requires few { frame < 2 ^ 31 }
     requires cells { AreAlikeAt scene.now setup.now cuts.now groups.now frame }
     requires places { HasPlaces (length scene.now.layers) (cells_of cuts.now) (groups_in groups.now) room.old }
-    requires before { ArePaintedBefore scene.now setup.now cuts.now groups.now frame room.old.states.items room.old.tints.items }
+    requires before { ArePaintedBefore scene.now setup.now cuts.now groups.now frame
+        room.old.states.items room.old.tints.items }
     requires swept { IsSwept scene.now setup.now cuts.now groups.now frame room.old.pool found }
-    ensures painted { ArePainted scene.now setup.now cuts.now groups.now frame room.new.states.items room.new.tints.items }
+    ensures painted { ArePainted scene.now setup.now cuts.now groups.now frame
+        room.new.states.items room.new.tints.items }
     ensures swept { IsSwept scene.now setup.now cuts.now groups.now (frame + 1) room.new.pool result }
     ensures places { HasPlaces (length scene.now.layers) (cells_of cuts.now) (groups_in groups.now) room.new }
     ensures only { OnlyRows (groups_in groups.now) room.old.pool room.new.pool }
