@@ -81,6 +81,7 @@ fn blue_span(tint: Tint) -> Span
 }
 
 // A layer painted over a tint, by its cover and an alpha together.
+#[inline(always)]
 fn tint_over(state: &LayerState, opacity: Span, backdrop: Tint) -> Tint
     requires { IsInSlots (state_as state.now) }
     ensures { result ≡ definition.tint_over (state_as state.now) (span_as opacity) backdrop }
@@ -104,6 +105,7 @@ fn tint_hull(a: Tint, b: Tint) -> Tint
 }
 
 // The tint after a box is painted, where it is shown and covers the pixel.
+#[inline(always)]
 fn with_box(state: &LayerState, x: u16, y: u16, backdrop: Tint) -> Tint
     requires { IsInSlots (state_as state.now) }
     ensures { result ≡ box_over (state_as state.now) x y backdrop }

@@ -1,6 +1,6 @@
 -- One window more.
 use Rattle.std.proofs.Common.{◌≡◌, ◌+◌, ◌*◌, ap, arith, rules, slice_get, subst, ◌∙◌}
-use Rattle.cell_flags.specs.Flags.{IsTracking}
+use Rattle.cell_flags.specs.Flags.{AddsFlags, IsTracking}
 use Rattle.cell_flags.proofs.TrackLemmas.{adds-more, flag-at, tracking-more}
 use Rattle.cell_flags.proofs.tracked.add_flags.Goals as goal
 
@@ -17,3 +17,9 @@ loop-start-preserved c =
           (flag-at c.args.tints.now c.args.cells c.args.cell c.args.rate c.loop-start.start c.push.new.self c.flagged.result tracking
           (record { possible = c.flagged.ensures.possible; sure = c.flagged.ensures.sure }));
     }
+
+pub returns : goal.returns
+returns c =
+    let all : c.loop-start.start ≡ c.args.windows = omega (arith, c.loop-start.auto.start-end, c.loop-start-test.false) in
+    subst (λ n. AddsFlags c.args.tints.now c.args.cells c.args.cell c.args.rate n c.args.flags.now.items c.loop-start.flags.items) all
+    c.loop-start.invariant.added
