@@ -1,5 +1,5 @@
-//! Rows of regions: the edges of boxes that move, settled frames and periods, and the parts of scenes whose boxes repeat
-//! separately, with the values that they must have.
+//! Rows of regions: the edges of boxes that move, settled frames and periods, and the parts of scenes whose boxes
+//! repeat separately, with the values that they must have.
 //!
 //! Nothing stands on this crate, and it has no function but tests. The clauses say that an answer is the
 //! definition's; a row says that the definition gives what was meant, and that memory isn't refused where there
